@@ -1,0 +1,13 @@
+-- What an object that may not tell its content does to it: what it told stays told.
+use Rattle.std.specs.Prelude.{◌≡◌, ◌≤◌, ◌++◌, ℕ, List, length, take, Option, Result, MatchResult}
+use Rattle.std.specs.Option.{option_map}
+use Rattle.sv_dev.specs.declared.fault.Failed.{Failed}
+
+-- what was told, with these bytes more
+abbrev pub grown : Option (List ℕ) → List ℕ → Option (List ℕ)
+grown told bytes = option_map (λ old. old ++ bytes) told
+
+-- a call that appends all of the bytes, or fails and has appended some front of them
+abbrev pub Writes : Option (List ℕ) → Option (List ℕ) → List ℕ → Result (Unit {0}) Failed → Type 0
+Writes old new bytes result =
+    MatchResult result (λ _. new ≡ grown old bytes) (λ _. (n : ℕ) × (n ≤ length bytes) × (new ≡ grown old (take n bytes)))

@@ -1,0 +1,20 @@
+//! The world outside the kernel, as traits with contracts, and its forms in memory and in real files.
+//!
+//! - `Disk` is the block device: reads and writes of 512 or 1,024 bytes, each of which may fail and is counted.
+//! - `Sink` takes bytes in order, `Host` gives disks by the name of their image and takes them back.
+//! - `Watch` is told of each answer of a run.
+//! - A failure is answered only where the count of failures of the very object that was asked has risen.
+#![tactic(auto)]
+
+mod disk;
+mod fault;
+mod host;
+mod sink;
+mod watch;
+
+pub use disk::Disk;
+pub use fault::{Failed, HostFault};
+pub use host::Host;
+pub use sink::Sink;
+pub use std::alloc::AllocError as NoMemory;
+pub use watch::{NoWatch, Watch};
