@@ -1,1 +1,4 @@
 pub mod Geometry
+pub mod Inode
+pub mod Number
+pub mod Superblock

@@ -1,11 +1,20 @@
 //! What stands on an image, and how it is spelled: the geometry of the disk, the superblock and the inodes.
 //!
 //! - `Geometry` says how large the disk is and where its parts lie.
+//! - `Super` is the superblock, `DiskInode` one inode of the inode list; each has `read`, which is the inverse of
+//!   one relation between bytes and value.
 //! - `Kind` is what an inode is: a regular file or a directory.
+//! - `number16`, `number24` and `number32` read the numbers of all formats, lowest byte first.
 #![tactic(auto)]
 
 mod geometry;
+mod inode;
 mod kind;
+mod number;
+mod superblock;
 
 pub use geometry::Geometry;
+pub use inode::{DiskInode, InodeBody};
 pub use kind::Kind;
+pub use number::{is_zero, number16, number24, number32};
+pub use superblock::Super;

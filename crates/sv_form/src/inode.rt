@@ -1,0 +1,107 @@
+// The disk inode (Bach, chapter 4.1).
+ghost use Rattle.std.specs.Prelude.{◌≡◌, ◌+◌, ◌*◌, ℕ, length, IfSome, IfNone};
+ghost use Rattle.sv_form.specs.declared.kind.Kind.{Kind};
+ghost use Rattle.sv_form.specs.Number.{number24, number32, IsTable};
+ghost use Rattle.sv_form.specs.Inode.{kind_code};
+
+use crate::Kind;
+use crate::number::{is_zero, number16, number24, number32};
+
+/// What stands at one inode's place on the disk.
+#[derive(Clone, Copy, Debug)]
+pub enum DiskInode {
+    Free,
+    Used(InodeBody),
+}
+
+/// A used inode. Owner, group and times are kept as they are and have no meaning here.
+#[derive(Clone, Copy, Debug)]
+pub struct InodeBody {
+    pub kind: Kind,
+    /// The twelve mode bits.
+    pub mode: u16,
+    /// How many directory entries name it.
+    pub links: u16,
+    pub owner: u16,
+    pub group: u16,
+    /// In bytes.
+    pub size: u32,
+    /// Ten direct blocks, then the single, the double and the triple indirect block; 0 is a hole.
+    pub addresses: [u32; 13],
+    pub times: [u32; 3],
+}
+
+impl DiskInode {
+    ghost use Rattle.sv_form.specs.declared.inode.DiskInode.{DiskInode};
+    ghost use Rattle.sv_form.specs.Inode.{IsInode};
+
+    /// Reads the 64 bytes at an inode's place. A free inode is zero bytes.
+    pub fn read(from: &[u8]) -> Option<DiskInode>
+        requires { length from.now ≡ 64 }
+        ensures some { IfSome result (λ i. IsInode from.now i) }
+        ensures none { IfNone result ((i : DiskInode) → IsInode from.now i → ⊥) }
+    {
+        if is_zero(from, 0, 64) {
+            return Some(DiskInode::Free);
+        }
+        let body = InodeBody::read(from)?;
+        Some(DiskInode::Used(body))
+    }
+}
+
+impl InodeBody {
+    ghost use Rattle.sv_form.specs.declared.inode.InodeBody.{InodeBody};
+    ghost use Rattle.sv_form.specs.Inode.{IsBody};
+
+    // The 64 bytes of an inode that is not free.
+    fn read(from: &[u8]) -> Option<InodeBody>
+        requires { length from.now ≡ 64 }
+        ensures some { IfSome result (λ b. IsBody from.now b) }
+        ensures none { IfNone result ((b : InodeBody) → IsBody from.now b → ⊥) }
+    {
+        let kind = read_kind(number16(from, 0) / 4096)?;
+        if from[51] != 0 {
+            return None;
+        }
+        Some(InodeBody {
+            kind,
+            mode: number16(from, 0) % 4096,
+            links: number16(from, 2),
+            owner: number16(from, 4),
+            group: number16(from, 6),
+            size: number32(from, 8),
+            addresses: read_addresses(from),
+            times: read_times(from),
+        })
+    }
+}
+
+// The kind that stands in the upper four bits of an inode's first number.
+fn read_kind(code: u16) -> Option<Kind>
+    ensures some { IfSome result (λ k. kind_code k ≡ code) }
+    ensures none { IfNone result ((k : Kind) → kind_code k ≡ code → ⊥) }
+{
+    match code {
+        8 => Some(Kind::File),
+        4 => Some(Kind::Dir),
+        _ => None,
+    }
+}
+
+fn read_addresses(from: &[u8]) -> [u32; 13]
+    requires { length from.now ≡ 64 }
+    ensures { IsTable (λ k. number24 from.now (12 + 3 * k)) 13 result }
+{
+    let mut addresses = [0; 13];
+    for (k, address) in addresses.iter_mut().enumerate() {
+        *address = number24(from, 12 + 3 * k);
+    }
+    addresses
+}
+
+fn read_times(from: &[u8]) -> [u32; 3]
+    requires { length from.now ≡ 64 }
+    ensures { IsTable (λ k. number32 from.now (52 + 4 * k)) 3 result }
+{
+    [number32(from, 52), number32(from, 56), number32(from, 60)]
+}
