@@ -7,7 +7,10 @@ use Rattle.sv_dev.specs.declared.fault.Failed.{Failed}
 abbrev pub grown : Option (List ℕ) → List ℕ → Option (List ℕ)
 grown told bytes = option_map (λ old. old ++ bytes) told
 
+-- some front of the bytes was appended
+abbrev pub AppendsFront : Option (List ℕ) → Option (List ℕ) → List ℕ → Type 0
+AppendsFront old new bytes = (n : ℕ) × (n ≤ length bytes) × (new ≡ grown old (take n bytes))
+
 -- a call that appends all of the bytes, or fails and has appended some front of them
 abbrev pub Writes : Option (List ℕ) → Option (List ℕ) → List ℕ → Result (Unit {0}) Failed → Type 0
-Writes old new bytes result =
-    MatchResult result (λ _. new ≡ grown old bytes) (λ _. (n : ℕ) × (n ≤ length bytes) × (new ≡ grown old (take n bytes)))
+Writes old new bytes result = MatchResult result (λ _. new ≡ grown old bytes) (λ _. AppendsFront old new bytes)

@@ -1,6 +1,7 @@
 -- How large a disk is and where its parts lie.
-use Rattle.std.specs.Prelude.{◌≡◌, ◌<◌, ◌≤◌, ◌-◌, ◌*◌, ◌/◌, ℕ}
+use Rattle.std.specs.Prelude.{◌≡◌, ◌<◌, ◌≤◌, ◌+◌, ◌-◌, ◌*◌, ◌/◌, ◌%◌, ℕ}
 use Rattle.sv_form.specs.declared.geometry.Geometry.{Geometry}
+use Rattle.sv_form.specs.declared.place.Place.{Place}
 
 -- The sizes that an image may have: blocks of 1,024 bytes, 4 to 65,536 of them; the inode list starts at
 -- block 2 and has 1 to 4,095 blocks, and a data block is left.
@@ -15,3 +16,21 @@ pub record IsGeometry (g : Geometry) : Type 0 where
 -- the inodes that fit into the blocks from 2 up to the first data block, 64 bytes each
 abbrev pub inode_count : Geometry → ℕ
 inode_count g = (g.first_data - 2) * g.block_size / 64
+
+-- how many lines of 64 bytes a block has
+abbrev pub block_lines : Geometry → ℕ
+block_lines g = g.block_size / 64
+
+-- the place of inode n, numbered from 1
+abbrev pub inode_place : Geometry → ℕ → Place
+inode_place g n = record { block = (n - 1) / block_lines g + 2; line = (n - 1) % block_lines g }
+
+-- inode n is one of the inode list
+pub record IsNumber (g : Geometry) (n : ℕ) : Type 0 where
+  pub least : 1 ≤ n
+  pub most : n ≤ inode_count g
+
+-- block b is one of the data blocks
+pub record IsDataBlock (g : Geometry) (b : ℕ) : Type 0 where
+  pub least : g.first_data ≤ b
+  pub most : b < g.blocks

@@ -1,4 +1,5 @@
 pub mod Geometry
+pub mod Image
 pub mod Inode
 pub mod Number
 pub mod Superblock

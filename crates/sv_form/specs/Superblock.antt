@@ -1,6 +1,7 @@
 -- The superblock, 512 bytes (Bach, chapter 4.5).
 use Rattle.std.specs.Prelude.{◌≡◌, ◌≤◌, ◌+◌, ◌*◌, ℕ, List, length}
 use Rattle.sv_form.specs.declared.superblock.Super.{Super}
+use Rattle.sv_form.specs.declared.geometry.Geometry.{Geometry}
 use Rattle.sv_form.specs.Number.{number16, number32, IsZero, IsTable}
 
 -- the magic number: the bytes 53 56 35 46, which are SV5F
@@ -8,24 +9,24 @@ abbrev pub magic : ℕ
 magic = 0x46355653
 
 -- the place of entry k of the free block cache, and of the free inode cache
-abbrev pub free_place : ℕ → ℕ
-free_place k = 16 + 4 * k
+abbrev pub free_at : ℕ → ℕ
+free_at k = 16 + 4 * k
 
-abbrev pub inode_place : ℕ → ℕ
-inode_place k = 216 + 2 * k
+abbrev pub cached_at : ℕ → ℕ
+cached_at k = 216 + 2 * k
 
 -- The free block cache that stands in the bytes: its count, 1 to 50, and a table of 50 places of 4 bytes.
 pub record IsFreeCache (bytes : List ℕ) (list : List ℕ) : Type 0 where
   pub count : number16 bytes 12 ≡ length list
   pub some : 1 ≤ length list
   pub fits : length list ≤ 50
-  pub table : IsTable (λ k. number32 bytes (free_place k)) 50 list
+  pub table : IsTable (λ k. number32 bytes (free_at k)) 50 list
 
 -- The free inode cache that stands in the bytes: its count, 0 to 100, and a table of 100 places of 2 bytes.
 pub record IsInodeCache (bytes : List ℕ) (list : List ℕ) : Type 0 where
   pub count : number16 bytes 14 ≡ length list
   pub fits : length list ≤ 100
-  pub table : IsTable (λ k. number16 bytes (inode_place k)) 100 list
+  pub table : IsTable (λ k. number16 bytes (cached_at k)) 100 list
 
 -- The bytes are the spelling of this superblock. The block type may be any.
 pub record IsSuper (bytes : List ℕ) (s : Super) : Type 0 where
@@ -37,3 +38,7 @@ pub record IsSuper (bytes : List ℕ) (s : Super) : Type 0 where
   pub free : IsFreeCache bytes s.free.items
   pub inodes : IsInodeCache bytes s.inodes.items
   pub rest : IsZero bytes 416 512
+
+-- the sizes that it names, with blocks of 1,024 bytes
+abbrev pub sizes_of : Super → Geometry
+sizes_of s = record { block_size = 1024; blocks = s.blocks; first_data = s.first_data }

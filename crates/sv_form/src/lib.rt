@@ -4,6 +4,7 @@
 //! - `Super` is the superblock, `DiskInode` one inode of the inode list; each has `read`, which is the inverse of
 //!   one relation between bytes and value.
 //! - `Kind` is what an inode is: a regular file or a directory.
+//! - `Place` is one line of 64 bytes, which is where an inode stands.
 //! - `number16`, `number24` and `number32` read the numbers of all formats, lowest byte first.
 #![tactic(auto)]
 
@@ -11,10 +12,12 @@ mod geometry;
 mod inode;
 mod kind;
 mod number;
+mod place;
 mod superblock;
 
 pub use geometry::Geometry;
 pub use inode::{DiskInode, InodeBody};
 pub use kind::Kind;
 pub use number::{is_zero, number16, number24, number32};
-pub use superblock::Super;
+pub use place::Place;
+pub use superblock::{MAGIC, Super};

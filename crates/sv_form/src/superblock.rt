@@ -5,7 +5,8 @@ ghost use Rattle.sv_form.specs.Superblock.{IsFreeCache, IsInodeCache};
 use crate::number::{is_zero, number16, number32};
 use arrayvec::ArrayVec;
 
-const MAGIC: u32 = 0x4635_5653;
+/// The first number of a superblock: the bytes 53 56 35 46, which are `SV5F`.
+pub const MAGIC: u32 = 0x4635_5653;
 
 /// The first 512 bytes that are looked at: the sizes of the image, and its two caches of what is free.
 ///

@@ -1,0 +1,23 @@
+// Why a check gave no answer.
+use sv_dev::Failed;
+
+/// Why a check did not say that the image is sound.
+#[derive(Clone, Copy, Debug, PartialEq, Eq)]
+pub enum CheckFault {
+    /// The number of the first condition that fails, from 1, and the place where it fails.
+    Refused { number: u8, place: u32 },
+    /// The disk failed.
+    Fault,
+    NoMemory,
+}
+
+impl From<Failed> for CheckFault {
+    ghost use Rattle.std.specs.Prelude.{◌≡◌};
+    ghost use Rattle.sv_check.specs.declared.fault.CheckFault.TheVariants.{Fault};
+
+    ghost from_gives = { λ _ e. e ≡ Fault };
+
+    fn from(_: Failed) -> Self {
+        CheckFault::Fault
+    }
+}

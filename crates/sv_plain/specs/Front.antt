@@ -1,0 +1,26 @@
+-- The bytes of a file that has direct blocks alone.
+use Rattle.std.specs.Prelude.{◌==◌, ℕ, List, ◌*◌, ◌+◌, ◌/◌, ◌%◌, map, slice_index, if◌then◌else◌}
+use Rattle.std.specs.List.{range_with_len}
+use Rattle.sv_form.specs.declared.geometry.Geometry.{Geometry}
+use Rattle.sv_form.specs.Number.{number24, number32}
+use Rattle.sv_form.specs.Inode.{address_place}
+use Rattle.sv_form.specs.Image.{block_of, inode_of}
+
+-- the size in bytes, and address k, that stand in the inode's bytes
+abbrev pub size_of : List ℕ → ℕ
+size_of inode = number32 inode 8
+
+abbrev pub address_of : List ℕ → ℕ → ℕ
+address_of inode k = number24 inode (address_place k)
+
+-- byte k of the block that an address names, or 0 where the address is 0
+unfoldable pub page_byte : Geometry → List ℕ → ℕ → ℕ → ℕ
+page_byte g image address k = if address == 0 then 0 else slice_index (block_of g image address) k
+
+-- byte k of a file: it stands in the page that address k / block size names
+unfoldable pub file_byte : Geometry → List ℕ → List ℕ → ℕ → ℕ
+file_byte g image inode k = page_byte g image (address_of inode (k / g.block_size)) (k % g.block_size)
+
+-- the bytes of inode n, as many as its size says
+unfoldable pub front : Geometry → List ℕ → ℕ → List ℕ
+front g image n = map (file_byte g image (inode_of g image n)) (range_with_len 0 (size_of (inode_of g image n)))
