@@ -17,10 +17,14 @@ address_of inode k = number24 inode (address_place k)
 unfoldable pub page_byte : Geometry → List ℕ → ℕ → ℕ → ℕ
 page_byte g image address k = if address == 0 then 0 else slice_index (block_of g image address) k
 
--- byte k of a file: it stands in the page that address k / block size names
-unfoldable pub file_byte : Geometry → List ℕ → List ℕ → ℕ → ℕ
-file_byte g image inode k = page_byte g image (address_of inode (k / g.block_size)) (k % g.block_size)
+-- byte k of a file whose pages stand at these addresses: it is in the page k / block size
+unfoldable pub file_byte : Geometry → List ℕ → (ℕ → ℕ) → ℕ → ℕ
+file_byte g image address k = page_byte g image (address (k / g.block_size)) (k % g.block_size)
+
+-- the bytes of a file of that size whose pages stand at these addresses
+unfoldable pub file_bytes : Geometry → List ℕ → (ℕ → ℕ) → ℕ → List ℕ
+file_bytes g image address size = map (file_byte g image address) (range_with_len 0 size)
 
 -- the bytes of inode n, as many as its size says
-unfoldable pub front : Geometry → List ℕ → ℕ → List ℕ
-front g image n = map (file_byte g image (inode_of g image n)) (range_with_len 0 (size_of (inode_of g image n)))
+abbrev pub front : Geometry → List ℕ → ℕ → List ℕ
+front g image n = file_bytes g image (address_of (inode_of g image n)) (size_of (inode_of g image n))

@@ -1,0 +1,4 @@
+pub mod PageSteps
+pub mod ShortFiles
+pub mod NumberWords
+pub mod ThreeWords

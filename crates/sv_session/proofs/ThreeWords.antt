@@ -1,0 +1,34 @@
+-- A command line of three words.
+use Rattle.std.proofs.Common.{◌≡◌, ◌<◌, ◌≤◌, ℕ, List, [], ◌∷◌, length, get_or, map, false, not, arith, sym, ◌∙◌, ap, String, string_bytes, Global, codes, decimal}
+use Rattle.std.specs.Str.{bytes_eq}
+use Rattle.std.proofs.lemmas.Bool.{not-false}
+use Rattle.std.proofs.lemmas.Slice.Eq.{bytes_eq-Decides}
+
+-- a list of three is its elements
+three : {X : Type 0} (xs : List X) (a b c : X) → 3 ≤ length xs → length xs < 4 → a ≡ get_or xs 0 a → b ≡ get_or xs 1 b → c ≡ get_or xs 2 c
+    → xs ≡ a ∷ b ∷ c ∷ []
+three [] a b c least most first second third = absurd (omega arith)
+three (x ∷ []) a b c least most first second third = absurd (omega arith)
+three (x ∷ y ∷ []) a b c least most first second third = absurd (omega arith)
+three (x ∷ y ∷ z ∷ []) a b c least most first second third = cc
+three (x ∷ y ∷ z ∷ w ∷ more) a b c least most first second third = absurd (omega arith)
+
+-- the texts of three words
+pub three_words : (words : List (String Global)) (a b c : String Global) → 3 ≤ length words → length words < 4 → a ≡ get_or words 0 a → b ≡ get_or words 1 b → c ≡ get_or words 2 c
+    → map string_bytes words ≡ string_bytes a ∷ string_bytes b ∷ string_bytes c ∷ []
+three_words words a b c least most first second third = ap (map string_bytes) (three words a b c least most first second third)
+
+-- a comparison that did not tell two texts apart
+pub same_text : (xs ys : List ℕ) → false ≡ not (bytes_eq xs ys) → xs ≡ ys
+same_text xs ys e = (bytes_eq-Decides xs ys).0 (not-false (bytes_eq xs ys) (sym e))
+
+-- the words are a `cat` of that image and inode number
+pub cat_words : (words : List (String Global)) (a b c : String Global) → 3 ≤ length words → length words < 4 → a ≡ get_or words 0 a → b ≡ get_or words 1 b → c ≡ get_or words 2 c
+    → (command image number : List ℕ) (n : ℕ) → command ≡ string_bytes a → false ≡ not (bytes_eq command (codes "cat")) → image ≡ string_bytes b
+    → number ≡ string_bytes c → number ≡ decimal n → map string_bytes words ≡ codes "cat" ∷ image ∷ decimal n ∷ []
+cat_words words a b c least most first second third command image number n is_command is_cat is_image is_number value =
+    let same : command ≡ codes "cat" = same_text command (codes "cat") is_cat in
+    let texts : map string_bytes words ≡ string_bytes a ∷ string_bytes b ∷ string_bytes c ∷ [] = three_words words a b c least most first second third in
+    texts ∙ ap (λ (w : List ℕ). w ∷ string_bytes b ∷ string_bytes c ∷ []) (sym is_command ∙ same)
+    ∙ ap (λ (w : List ℕ). codes "cat" ∷ w ∷ string_bytes c ∷ []) (sym is_image)
+    ∙ ap (λ (w : List ℕ). codes "cat" ∷ image ∷ w ∷ []) (sym is_number ∙ value)

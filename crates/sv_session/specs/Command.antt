@@ -1,0 +1,11 @@
+-- The words of the command line.
+use Rattle.std.specs.Prelude.{◌≡◌, ◌<◌, ◌^◌, ℕ, List, [], ◌∷◌, codes, decimal}
+
+-- what the words may ask for
+pub data Command : Type 0 where
+  -- write the bytes of a regular file
+  cat : (image : List ℕ) (inode : ℕ) → Command
+
+-- The words ask for this. A number is decimal digits, without sign or leading zero, `0` itself aside.
+abbrev pub Asks : List (List ℕ) → Command → Type 0
+Asks words (cat image inode) = (inode < 2 ^ 32) × (words ≡ codes "cat" ∷ image ∷ decimal inode ∷ [])

@@ -1,0 +1,14 @@
+-- Why a transfer from the disk to a sink ended early.
+use Rattle.sv_session.specs.declared.stop.Stop.{Stop}
+use Rattle.sv_session.specs.declared.stop.Stop.TheVariants.{Words, Refused, DeviceFault, FileFault, WriteFault, NoMemory, NoSuchFile, TooLarge}
+
+-- the disk failed, or the sink did
+abbrev pub Transfers : (device write : Type 0) → Stop → Type 0
+Transfers device write DeviceFault = device
+Transfers device write WriteFault = write
+Transfers device write Words = ⊥
+Transfers device write (Refused number place) = ⊥
+Transfers device write FileFault = ⊥
+Transfers device write NoMemory = ⊥
+Transfers device write NoSuchFile = ⊥
+Transfers device write TooLarge = ⊥

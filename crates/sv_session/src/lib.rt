@@ -1,0 +1,13 @@
+//! The commands of the program, from its words to what they write.
+#![tactic(auto)]
+
+mod cat;
+mod find;
+mod pages;
+mod stop;
+mod top;
+mod words;
+
+pub use cat::cat_image;
+pub use stop::Stop;
+pub use top::svfs;

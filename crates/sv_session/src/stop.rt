@@ -1,0 +1,148 @@
+// Why a command ends without having done its work.
+ghost use Rattle.std.specs.Prelude.{◌≡◌, ◌≤◌, [], length};
+ghost use Rattle.sv_session.specs.Stop.{word_of, refusal_of, status_of, line_of, Noted};
+
+use arrayvec::ArrayString;
+use itoa::Buffer;
+use std::alloc::AllocError;
+use sv_check::CheckFault;
+use sv_dev::{HostFault, Sink};
+
+// Room for the longest line.
+const LINE_BYTES: usize = 64;
+
+/// Why a command ended without having done its work.
+#[derive(Clone, Copy, Debug, PartialEq, Eq)]
+pub enum Stop {
+    /// The words of the command line do not read.
+    Words,
+    /// The image is not sound: the condition that fails first, by its number, and where it fails.
+    Refused { number: u8, place: u32 },
+    DeviceFault,
+    FileFault,
+    WriteFault,
+    NoMemory,
+    NoSuchFile,
+    TooLarge,
+}
+
+impl Stop {
+    ghost use Rattle.sv_session.specs.Stop.{status_of};
+
+    /// The exit status of the program.
+    pub fn status(&self) -> u8
+        ensures { result ≡ status_of self.now }
+    {
+        match self {
+            Stop::Words => 1,
+            Stop::Refused { .. } => 2,
+            Stop::DeviceFault => 4,
+            Stop::FileFault => 5,
+            Stop::WriteFault => 6,
+            Stop::NoMemory => 7,
+            Stop::NoSuchFile => 9,
+            Stop::TooLarge => 10,
+        }
+    }
+}
+
+// The line that is noted, which needs no memory.
+impl Stop {
+    ghost use Rattle.sv_session.specs.Stop.{line_of};
+
+    fn line(&self) -> ArrayString<LINE_BYTES>
+        ensures { result.bytes ≡ line_of self.now }
+    {
+        let mut line = ArrayString::new();
+        match *self {
+            Stop::Words => line.push_str("svfs: words not understood\n"),
+            Stop::Refused { number, place } => push_refusal(&mut line, number, place),
+            Stop::DeviceFault => line.push_str("svfs: device fault\n"),
+            Stop::FileFault => line.push_str("svfs: file fault\n"),
+            Stop::WriteFault => line.push_str("svfs: write fault\n"),
+            Stop::NoMemory => line.push_str("svfs: out of memory\n"),
+            Stop::NoSuchFile => line.push_str("svfs: no such file\n"),
+            Stop::TooLarge => line.push_str("svfs: file too large\n"),
+        }
+        line
+    }
+}
+
+// The line of a refused image: the condition's number and word, and the place.
+fn push_refusal(line: &mut ArrayString<LINE_BYTES>, number: u8, place: u32)
+    requires { line.old.bytes ≡ [] }
+    ensures { line.new.bytes ≡ refusal_of number place }
+{
+    let mut digits = Buffer::new();
+    line.push_str("svfs: image refused: ");
+    line.push_str(digits.format(number));
+    line.push_str(" ");
+    line.push_str(word(number));
+    line.push_str(" ");
+    line.push_str(digits.format(place));
+    line.push_str("\n");
+}
+
+// The word of a condition of a sound image.
+fn word(number: u8) -> &'static str
+    ensures word { result.now ≡ word_of number }
+    ensures short { length result.now ≤ 11 }
+{
+    match number {
+        1 => "Magic",
+        2 => "BlockSize",
+        3 => "Sizes",
+        4 => "Kind",
+        6 => "Range",
+        _ => "",
+    }
+}
+
+impl From<AllocError> for Stop {
+    ghost use Rattle.std.specs.Prelude.{◌≡◌};
+    ghost use Rattle.sv_session.specs.declared.stop.Stop.TheVariants.{NoMemory};
+
+    ghost from_gives = { λ _ stop. stop ≡ NoMemory };
+
+    fn from(_: AllocError) -> Self {
+        Stop::NoMemory
+    }
+}
+
+impl From<CheckFault> for Stop {
+    ghost use Rattle.std.specs.Prelude.{◌≡◌};
+    ghost use Rattle.sv_session.specs.Stop.{stop_of_check};
+
+    ghost from_gives = { λ fault stop. stop ≡ stop_of_check fault };
+
+    fn from(fault: CheckFault) -> Self {
+        match fault {
+            CheckFault::Refused { number, place } => Stop::Refused { number, place },
+            CheckFault::Fault => Stop::DeviceFault,
+            CheckFault::NoMemory => Stop::NoMemory,
+        }
+    }
+}
+
+impl From<HostFault> for Stop {
+    ghost use Rattle.std.specs.Prelude.{◌≡◌};
+    ghost use Rattle.sv_session.specs.Stop.{stop_of_host};
+
+    ghost from_gives = { λ fault stop. stop ≡ stop_of_host fault };
+
+    fn from(fault: HostFault) -> Self {
+        match fault {
+            HostFault::Failed => Stop::FileFault,
+            HostFault::NoMemory => Stop::NoMemory,
+        }
+    }
+}
+
+/// Notes the line of a stop, and answers its status. A failed write to `note` changes nothing.
+pub fn tell<O: Sink>(stop: &Stop, note: &mut O) -> u8
+    ensures status { result ≡ status_of stop.now }
+    ensures noted { Noted (O.written note.old) (O.written note.new) (O.faults note.old) (O.faults note.new) (line_of stop.now) }
+{
+    let _ = note.write(stop.line().as_bytes());
+    stop.status()
+}

@@ -1,0 +1,51 @@
+// The words of the command line.
+ghost use Rattle.std.specs.Prelude.{◌≡◌, ◌≢◌, ◌<◌, ◌≤◌, ◌^◌, ◌↔◌, ℕ, map, length, slice_index, string_bytes, decimal, IsTrue, IfSome, IfNone};
+ghost use Rattle.sv_session.specs.Command.{Command, Asks};
+ghost use Rattle.sv_session.specs.Words.{asked};
+
+/// What the words of the command line ask for.
+#[derive(Clone, Copy, Debug)]
+pub enum Request<'a> {
+    /// Write the bytes of a regular file.
+    Cat { image: &'a str, inode: u32 },
+}
+
+/// Reads the words after the program's name. A number is decimal digits, without sign or leading zero.
+pub fn read_words(words: &[String]) -> Option<Request<'_>>
+    ensures some { IfSome result (λ request. Asks (map string_bytes words.now) (asked request)) }
+    ensures none { IfNone result ((command : Command) → Asks (map string_bytes words.now) command → ⊥) }
+{
+    let [command, image, inode] = words else {
+        return None;
+    };
+    if command.as_str() != "cat" {
+        return None;
+    }
+    let inode = number(inode.as_str())?;
+    Some(Request::Cat {
+        image: image.as_str(),
+        inode,
+    })
+}
+
+// The number that a word is.
+fn number(word: &str) -> Option<u32>
+    ensures some { IfSome result (λ n. word.now ≡ decimal n) }
+    ensures none { IfNone result ((n : ℕ) → n < 2 ^ 32 → word.now ≡ decimal n → ⊥) }
+{
+    if !begins_plainly(word) {
+        return None;
+    }
+    word.parse::<u32>().ok()
+}
+
+// Whether a word has no sign, and no zero before another byte.
+fn begins_plainly(word: &str) -> bool
+    ensures { IsTrue result ↔ ((slice_index word.now 0 ≢ 43) × (slice_index word.now 0 ≡ 48 → length word.now ≤ 1)) }
+{
+    match word.as_bytes().first() {
+        Some(b'+') => false,
+        Some(b'0') => word.len() == 1,
+        _ => true,
+    }
+}
