@@ -1,5 +1,5 @@
 -- Counts of faults, and what a refusal says of them. A count is a u64: it only rises, and stands still at its end.
-use Rattle.std.specs.Prelude.{◌≡◌, ◌<◌, ◌≤◌, ◌⊎◌, ◌+◌, ◌-◌, ◌^◌, ℕ, min, Result, OnErr, IsErrOf}
+use Rattle.std.specs.Prelude.{◌≡◌, ◌<◌, ◌≤◌, ◌⊎◌, ◌+◌, ◌-◌, ◌^◌, ℕ, min, Result, Ok, Err, OnErr, IsErrOf}
 use Rattle.sv_dev.specs.declared.fault.Failed.{Failed}
 use Rattle.sv_dev.specs.declared.fault.HostFault.{HostFault}
 use Rattle.sv_dev.specs.declared.fault.HostFault.TheVariants as host
@@ -25,3 +25,9 @@ pub record HasCause {T : Type 0} (old new : ℕ) (result : Result T Failed) : Ty
 pub record HasHostCause {T : Type 0} (old new : ℕ) (result : Result T HostFault) : Type 0 where
   pub no_less : old ≤ new
   pub failed : IsErrOf result host.Failed → Rose old new
+
+-- a host's count of faults after a call: a failure is one more, want of memory is none
+abbrev pub faults_after : {T : Type 0} → ℕ → Result T HostFault → ℕ
+faults_after count (Ok value) = count
+faults_after count (Err host.Failed) = counted count 1
+faults_after count (Err host.NoMemory) = count

@@ -1,3 +1,9 @@
 pub mod Causes
+pub mod MemDisk
+pub mod MemDiskSeen
+pub mod MemHost
+pub mod MemHostSeen
+pub mod MemSinkSeen
+pub mod Named
 pub mod Told
 pub mod Transfer

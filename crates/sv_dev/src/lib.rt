@@ -9,12 +9,19 @@
 mod disk;
 mod fault;
 mod host;
+mod mem_disk;
+mod mem_host;
+mod mem_sink;
+mod named;
 mod sink;
 mod watch;
 
 pub use disk::Disk;
 pub use fault::{Failed, HostFault};
 pub use host::Host;
+pub use mem_disk::{Access, Fail, MemDisk};
+pub use mem_host::MemHost;
+pub use mem_sink::MemSink;
 pub use sink::Sink;
 pub use std::alloc::AllocError as NoMemory;
 pub use watch::{NoWatch, Watch};

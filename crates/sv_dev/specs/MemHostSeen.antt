@@ -1,0 +1,16 @@
+-- The counts of a host in memory.
+use Rattle.std.specs.Prelude.{ℕ, Bool, List}
+use Rattle.sv_dev.specs.Causes.{counted}
+use Rattle.sv_dev.specs.Named.{is_named}
+
+pub record HostCounts : Type 0 where
+  -- the numbers of the calls that fail
+  pub fails : List ℕ
+  -- how many of the numbered calls there were, failed ones included
+  pub calls : ℕ
+  pub faults : ℕ
+  pub disk_faults : ℕ
+
+-- does the list name the next of the numbered calls
+abbrev pub fails_next : HostCounts → Bool
+fails_next counts = is_named counts.fails (counted counts.calls 1)
