@@ -4,6 +4,8 @@ pub mod MemDiskSeen
 pub mod MemHost
 pub mod MemHostSeen
 pub mod MemSinkSeen
+pub mod MirrorDiskSeen
 pub mod Named
+pub mod RealHostSeen
 pub mod Told
 pub mod Transfer

@@ -8,20 +8,26 @@
 
 mod disk;
 mod fault;
+mod file_sink;
 mod host;
 mod mem_disk;
 mod mem_host;
 mod mem_sink;
+mod mirror_disk;
 mod named;
+mod real_host;
 mod sink;
 mod watch;
 
 pub use disk::Disk;
 pub use fault::{Failed, HostFault};
+pub use file_sink::FileSink;
 pub use host::Host;
 pub use mem_disk::{Access, Fail, MemDisk};
 pub use mem_host::MemHost;
 pub use mem_sink::MemSink;
+pub use mirror_disk::MirrorDisk;
+pub use real_host::RealHost;
 pub use sink::Sink;
 pub use std::alloc::AllocError as NoMemory;
 pub use watch::{NoWatch, Watch};
