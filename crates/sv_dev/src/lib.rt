@@ -17,6 +17,8 @@ mod mirror_disk;
 mod named;
 mod real_host;
 mod sink;
+#[cfg(test)]
+mod tests;
 mod watch;
 
 pub use disk::Disk;
