@@ -3,6 +3,8 @@
 //! - `Disk` is the block device: reads and writes of 512 or 1,024 bytes, each of which may fail and is counted.
 //! - `Sink` takes bytes in order, `Host` gives disks by the name of their image and takes them back.
 //! - `Watch` is told of each answer of a run.
+//! - `MemDisk`, `MemSink` and `MemHost` hold all in memory, and fail the calls that they are told to fail;
+//!   `MirrorDisk`, `FileSink` and `RealHost` stand over real files.
 //! - A failure is answered only where the count of failures of the very object that was asked has risen.
 #![tactic(auto)]
 

@@ -12,12 +12,13 @@ use std::marker::Model;
 use std::os::unix::fs::FileExt;
 use std::rt::Files;
 
-/// The most bytes of a file that are read: those of the greatest image, 64 MiB, and one more, by which a longer file
-/// is known.
-pub const MOST_BYTES: u64 = 67_108_865;
+// The most bytes of a file that are read: those of the greatest image, 64 MiB, and one more, by which a longer file
+// is known.
+const MOST_BYTES: u64 = 67_108_865;
 
-/// A block device over a real file, which is read once. Reads are answered from that mirror, and a write goes to the
-/// file before the mirror. That the file gives and takes those bytes is not proved.
+/// A block device over a real file, which is read once, up to one byte past the greatest image. Reads are answered
+/// from that mirror, and a write goes to the file before the mirror. That the file gives and takes those bytes is not
+/// proved.
 #[derive(Drop)]
 pub struct MirrorDisk {
     file: File,
@@ -35,7 +36,6 @@ impl Model for MirrorDisk {
     ghost view = { λ d. record { content = d.mirror.items; reads = d.reads; writes = d.writes; faults = d.faults } };
 }
 
-// A file that may not be written is opened for reading alone, and each write of its disk fails.
 fn open_file<R: Files<File = File>>(rt: &R, name: &str) -> io::Result<File> {
     match OpenOptions::new().read(true).write(true).open(rt, name) {
         Ok(file) => Ok(file),
@@ -60,7 +60,7 @@ fn host_fault(error: &io::Error) -> HostFault {
 }
 
 impl MirrorDisk {
-    /// Opens the file of that name and reads it.
+    /// Opens the file of that name and reads it. A file that may not be written is taken too, and each write fails.
     pub fn open<R: Files<File = File>>(
         rt: &R,
         alloc: Global,

@@ -152,6 +152,17 @@ fn real_disks(rt: HostRuntime) -> Result<(), TestFail> {
 }
 
 #[test]
+fn real_disks_past_the_limit(rt: HostRuntime) -> Result<(), TestFail> {
+    File::create(&rt, "long")?.set_len(70_000_000)?;
+    let disk = RealHost::new()
+        .disk(&rt, rt.alloc(), "long")
+        .ok()
+        .ok_or("disk")?;
+    assert_eq!(rt; disk.length(), 67_108_865);
+    Ok(())
+}
+
+#[test]
 fn real_sinks(rt: HostRuntime) -> Result<(), TestFail> {
     let mut text = vec![in rt.alloc(); 1; 200_000]?;
     let mut sink = FileSink::from(File::create(&rt, "text")?);
