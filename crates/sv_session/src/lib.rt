@@ -9,5 +9,5 @@ mod top;
 mod words;
 
 pub use cat::cat_image;
-pub use stop::Stop;
+pub use stop::{Stop, tell};
 pub use top::svfs;
