@@ -1,3 +1,4 @@
 pub mod Images
+pub mod EntryLemmas
 pub mod Numbers
 pub mod Superblocks

@@ -5,19 +5,26 @@
 //!   one relation between bytes and value.
 //! - `Kind` is what an inode is: a regular file or a directory.
 //! - `Place` is one line of 64 bytes, which is where an inode stands.
+//! - `Entry` is one entry of a directory, and `Name` what it is called; `Bytes` is what a call carries.
 //! - `number16`, `number24` and `number32` read the numbers of all formats, lowest byte first.
 #![tactic(auto)]
 
+mod bytes;
+mod entry;
 mod geometry;
 mod inode;
 mod kind;
+mod name;
 mod number;
 mod place;
 mod superblock;
 
+pub use bytes::Bytes;
+pub use entry::{ENTRY_SIZE, Entry, entries_have_one_spelling};
 pub use geometry::Geometry;
 pub use inode::{DiskInode, InodeBody};
 pub use kind::Kind;
+pub use name::{NAME_MAX, Name};
 pub use number::{is_zero, number16, number24, number32};
 pub use place::Place;
 pub use superblock::{MAGIC, Super};
