@@ -68,7 +68,7 @@ fn cat<R: Files<File = File>, H: Host, O: Sink>(
 }
 
 // The same over a disk that was given.
-fn cat_disk<D: Disk, O: Sink>(
+pub(crate) fn cat_disk<D: Disk, O: Sink>(
     alloc: Global,
     disk: &mut D,
     inode: u32,

@@ -5,6 +5,8 @@ mod cat;
 mod find;
 mod pages;
 mod stop;
+#[cfg(test)]
+mod tests;
 mod top;
 mod words;
 

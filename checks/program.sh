@@ -1,0 +1,38 @@
+#!/usr/bin/env bash
+# The built program at the real edge: files, standard output and standard error. Each row has a status and both texts.
+set -u
+top=$(cd "$(dirname "$0")/.." && pwd)
+program=$top/crates/svfs/out/svfs
+image=$top/crates/svfs/data/E
+work=$(mktemp -d); trap 'rm -rf "$work"' EXIT
+failed=0
+
+row() { # status, what standard output gets, what standard error gets, words
+  local status=$1 out=$2 note=$3; shift 3
+  "$program" "$@" >"$work/out" 2>"$work/note"; local got=$?
+  if [ "$got" != "$status" ] || [ "$(cat "$work/out")" != "$out" ] || [ "$(cat "$work/note")" != "$note" ]; then
+    echo "checks/program.sh: svfs $*: status $got, '$(cat "$work/out")', '$(cat "$work/note")'; wanted $status, '$out', '$note'" >&2
+    failed=1
+  fi
+}
+
+[ -x "$program" ] || { echo "checks/program.sh: $program is not built" >&2; exit 1; }
+cp "$image" "$work/image"; chmod 444 "$work/image"
+printf 'x' >"$work/short"
+row 0 'hello' '' cat "$work/image" 3
+row 1 '' 'svfs: words not understood' cat "$work/image"
+row 1 '' 'svfs: words not understood'
+row 2 '' 'svfs: image refused: 1 Magic 0' cat "$work/short" 3
+row 2 '' 'svfs: image refused: 1 Magic 0' cat /dev/null 3
+row 5 '' 'svfs: file fault' cat "$work/none" 3
+row 5 '' 'svfs: file fault' cat "$work" 3
+row 9 '' 'svfs: no such file' cat "$work/image" 2
+
+"$program" cat "$work/image" 3 >/dev/full 2>"$work/note"
+if [ $? != 6 ] || [ "$(cat "$work/note")" != 'svfs: write fault' ]; then
+  echo "checks/program.sh: a full device is not status 6" >&2; failed=1
+fi
+"$program" cat "$work/image" 9 2>/dev/full >"$work/out"
+if [ $? != 9 ]; then echo "checks/program.sh: a note that cannot be written changes the status" >&2; failed=1; fi
+cmp -s "$image" "$work/image" || { echo "checks/program.sh: the image changed" >&2; failed=1; }
+exit $failed
