@@ -44,7 +44,13 @@ struct Done {
 }
 
 // Runs the program on an image that stands under the name E.
-fn run<R: Files<File = File> + AllocGlobal + Threads + Wait>(rt: &R, image: Vec<u8>, disk_fails: Vec<Fail>, out_fails: Vec<u64>, words: &[&str]) -> Result<Done, Failure> {
+fn run<R: Files<File = File> + AllocGlobal + Threads + Wait>(
+    rt: &R,
+    image: Vec<u8>,
+    disk_fails: Vec<Fail>,
+    out_fails: Vec<u64>,
+    words: &[&str],
+) -> Result<Done, Failure> {
     let alloc = rt.alloc();
     let mut host = MemHost::new(Vec::new(alloc));
     host.put_image("E", image, disk_fails)?;
@@ -68,7 +74,14 @@ fn changed(alloc: Global, at: usize, bytes: &[u8]) -> Result<Vec<u8>, AllocError
 }
 
 // The small image, with a change, is answered by this status, these bytes and this line.
-fn gives<R: Files<File = File> + AllocGlobal + Threads + Wait + Abort>(rt: &R, change: (usize, &[u8]), words: &[&str], status: u8, out: &[u8], note: &[u8]) -> Result<(), Failure> {
+fn gives<R: Files<File = File> + AllocGlobal + Threads + Wait + Abort>(
+    rt: &R,
+    change: (usize, &[u8]),
+    words: &[&str],
+    status: u8,
+    out: &[u8],
+    note: &[u8],
+) -> Result<(), Failure> {
     let alloc = rt.alloc();
     if change.0 > 5_120 {
         return Ok(());
@@ -106,14 +119,63 @@ fn words_and_numbers(rt: HostRuntime) -> Result<(), Failure> {
 #[test]
 fn damaged_images(rt: HostRuntime) -> Result<(), Failure> {
     let cat = ["cat", "E", "3"];
-    gives(&rt, (INODE_3 + 8, b"\x01\x28"), &cat, 10, b"", b"svfs: file too large\n")?;
+    gives(
+        &rt,
+        (INODE_3 + 8, b"\x01\x28"),
+        &cat,
+        10,
+        b"",
+        b"svfs: file too large\n",
+    )?;
     gives(&rt, (INODE_3 + 8, b"\0"), &cat, 0, b"", b"")?;
-    gives(&rt, (INODE_3 + 12, b"\x05"), &cat, 2, b"", b"svfs: image refused: 6 Range 3\n")?;
-    gives(&rt, (INODE_3 + 12, b"\x02"), &cat, 2, b"", b"svfs: image refused: 6 Range 3\n")?;
-    gives(&rt, (512, b"\0"), &cat, 2, b"", b"svfs: image refused: 1 Magic 0\n")?;
-    gives(&rt, (516, b"\x03"), &cat, 2, b"", b"svfs: image refused: 2 BlockSize 3\n")?;
-    gives(&rt, (520, b"\x06"), &cat, 2, b"", b"svfs: image refused: 3 Sizes 0\n")?;
-    gives(&rt, (INODE_3 + 51, b"\x01"), &cat, 2, b"", b"svfs: image refused: 4 Kind 3\n")
+    gives(
+        &rt,
+        (INODE_3 + 12, b"\x05"),
+        &cat,
+        2,
+        b"",
+        b"svfs: image refused: 6 Range 3\n",
+    )?;
+    gives(
+        &rt,
+        (INODE_3 + 12, b"\x02"),
+        &cat,
+        2,
+        b"",
+        b"svfs: image refused: 6 Range 3\n",
+    )?;
+    gives(
+        &rt,
+        (512, b"\0"),
+        &cat,
+        2,
+        b"",
+        b"svfs: image refused: 1 Magic 0\n",
+    )?;
+    gives(
+        &rt,
+        (516, b"\x03"),
+        &cat,
+        2,
+        b"",
+        b"svfs: image refused: 2 BlockSize 3\n",
+    )?;
+    gives(
+        &rt,
+        (520, b"\x06"),
+        &cat,
+        2,
+        b"",
+        b"svfs: image refused: 3 Sizes 0\n",
+    )?;
+    gives(
+        &rt,
+        (INODE_3 + 51, b"\x01"),
+        &cat,
+        2,
+        b"",
+        b"svfs: image refused: 4 Kind 3\n",
+    )
 }
 
 // Ten pages, of which the first is block 4 and the others are holes.
@@ -121,7 +183,13 @@ fn damaged_images(rt: HostRuntime) -> Result<(), Failure> {
 fn holes(rt: HostRuntime) -> Result<(), Failure> {
     let alloc = rt.alloc();
     let image = changed(alloc, INODE_3 + 8, b"\0\x28")?;
-    let done = run(&rt, image, Vec::new(alloc), Vec::new(alloc), &["cat", "E", "3"])?;
+    let done = run(
+        &rt,
+        image,
+        Vec::new(alloc),
+        Vec::new(alloc),
+        &["cat", "E", "3"],
+    )?;
     assert_eq!(rt; done.status, 0);
     assert_eq!(rt; done.out.written().len(), 10_240);
     assert_eq!(rt; &done.out.written()[..6], b"hello\n".as_slice());
@@ -138,20 +206,29 @@ fn each_failure_in_turn(rt: HostRuntime) -> Result<(), Failure> {
         let image = changed(alloc, INODE_3 + 8, TEN_PAGES)?;
         let fails = vec![in alloc; Fail::Read(failing)]?;
         let done = run(&rt, image, fails, Vec::new(alloc), &cat)?;
-        assert_eq!(rt; done.status, if failing < 13 { 4 } else { 0 }, "read {failing}");
+        assert_eq!(rt;
+            done.status,
+            if failing < 13 { 4 } else { 0 },
+            "read {failing}"
+        );
         let pages = failing.saturating_sub(3).min(10) as usize;
         assert_eq!(rt; done.out.written().len(), 1_024 * pages, "read {failing}");
     }
     for failing in 1..=11u64 {
         let image = changed(alloc, INODE_3 + 8, TEN_PAGES)?;
         let done = run(&rt, image, Vec::new(alloc), vec![in alloc; failing]?, &cat)?;
-        assert_eq!(rt; done.status, if failing < 11 { 6 } else { 0 }, "write {failing}");
+        assert_eq!(rt;
+            done.status,
+            if failing < 11 { 6 } else { 0 },
+            "write {failing}"
+        );
     }
     Ok(())
 }
 
 // A size of ten pages, and block 4 in each of the ten direct addresses.
-const TEN_PAGES: &[u8] = b"\0\x28\0\0\x04\0\0\x04\0\0\x04\0\0\x04\0\0\x04\0\0\x04\0\0\x04\0\0\x04\0\0\x04\0\0\x04\0\0";
+const TEN_PAGES: &[u8] =
+    b"\0\x28\0\0\x04\0\0\x04\0\0\x04\0\0\x04\0\0\x04\0\0\x04\0\0\x04\0\0\x04\0\0\x04\0\0\x04\0\0";
 
 #[test]
 fn twelve_reads(rt: HostRuntime) -> Result<(), Failure> {
@@ -161,6 +238,9 @@ fn twelve_reads(rt: HostRuntime) -> Result<(), Failure> {
     let mut out = MemSink::new(Vec::new(alloc));
     assert_eq!(rt; cat_disk(alloc, &mut disk, 3, &mut out), Ok(()));
     assert_eq!(rt; disk.log().len(), 12);
-    assert_eq!(rt; cat_disk(alloc, &mut disk, 4, &mut out), Err(Stop::NoSuchFile));
+    assert_eq!(rt;
+        cat_disk(alloc, &mut disk, 4, &mut out),
+        Err(Stop::NoSuchFile)
+    );
     Ok(())
 }
