@@ -1,0 +1,162 @@
+//! The turn itself.
+ghost use Rattle.std.specs.Prelude.{◌≡◌, ◌<◌, vec_len, IfOk};
+
+use crate::NoMemory;
+use crate::origin::Origin;
+use crate::pass::Pass;
+use crate::rule::{CutView, FirstView, NewView, TurnRule, WholeView};
+use crate::stage::Doing;
+use crate::steps::{Cut, Draw, Give, Look, Tickets, Whole};
+use atomic_table::{Refused, Table};
+use crossbeam_utils::sync::EventCount;
+use std::alloc::{AllocFailed, Global};
+use std::sync::Wait;
+
+// The word that counts tickets drawn, the word of the ticket that is served, and the slot of the state.
+const DRAWN: usize = 0;
+
+const SERVED: usize = 1;
+
+const STATE: usize = 0;
+
+// The tickets that lie this far apart wait at one place. With no more passes than that, each waits alone.
+const PLACES: u32 = 64;
+
+/// A lock that owns a state, which is moved out to the pass whose turn it is. It has no drop: it is spent by `close`.
+pub struct Turn<R: TurnRule> {
+    table: Table<Option<R::State>, Doing<R::State, R::View>, Origin<R::View>, Tickets<R>, Global>,
+    places: Vec<EventCount>,
+    events: Vec<EventCount>,
+    ghost counts: { (table.shared.table_id.words ≡ 2) × (table.shared.table_id.slots ≡ 1) },
+    ghost has_places: { 0 < vec_len places },
+}
+
+impl<R: TurnRule> Turn<R> {
+    ghost use Rattle.std.specs.Prelude.{ℕ, ◌≤◌, ◌%◌, ◌^◌, [], ◌∷◌, IfErr};
+    ghost use Rattle.sv_turn.specs.Passes.{pass_view, IsOut, HasDrawn, HasEntered, IsSamePass, IsPassOf, first_view, turn_events};
+    ghost use Rattle.sv_turn.specs.Steps.{IsKept, Carries};
+
+    /// A turn with this state at home, and the one pass, which has the whole weight. The events are the numbers below `events`.
+    pub fn new<F: FirstView<R::View>>(
+        alloc: Global,
+        state: R::State,
+        events: u32,
+    ) -> Result<(Turn<R>, Pass<R>), (R::State, NoMemory)>
+        requires rule { R.holds state (F.first ∷ []) }
+        requires weight { (0 < R.weight F.first) × (R.weight F.first ≤ 2 ^ 63) }
+        requires events { 0 < events }
+        ensures ok { IfOk result (λ r. IsPassOf r.0 r.1 × IsOut r.1 × (pass_view r.1 ≡ F.first) × (first_view r.0 ≡ F.first) × (turn_events r.0 ≡ events)) }
+        ensures err { IfErr result (λ e. e.0 ≡ state) }
+    {
+        let Ok(places) = event_counts(alloc, PLACES) else {
+            return Err((state, NoMemory));
+        };
+        let Ok(events) = event_counts(alloc, events) else {
+            return Err((state, NoMemory));
+        };
+        let mut home = Vec::new(alloc);
+        if let Err(AllocFailed { value }) = home.push(Some(state)) {
+            home.destroy_empty();
+            return Err((value.unwrap(), NoMemory));
+        }
+        match Table::new(alloc, &[0, 0], home, &Origin::of::<F>()) {
+            Ok((table, seat)) => Ok((
+                Turn {
+                    table,
+                    places,
+                    events,
+                },
+                Pass { seat },
+            )),
+            Err(Refused { slots: mut home }) => {
+                let state = home.pop().unwrap().unwrap();
+                home.destroy_empty();
+                Err((state, NoMemory))
+            }
+        }
+    }
+
+    /// Waits for the turn and takes the state out. The pass is inside from then on, until it leaves.
+    pub fn enter<W: Wait>(&self, rt: &W, pass: &mut Pass<R>) -> R::State
+        requires own { IsPassOf self.now pass.old }
+        requires away { IsOut pass.old }
+        ensures same { IsSamePass pass.old pass.new × (pass_view pass.new ≡ pass_view pass.old) }
+        ensures inside { HasEntered pass.new result }
+        ensures holds { IsKept R.holds result (pass_view pass.new) }
+    {
+        let ticket = self
+            .table
+            .shared
+            .fetch_add::<Draw>(&mut pass.seat, DRAWN, 1);
+        self.come_in(rt, pass, ticket)
+    }
+
+    // Waits until the ticket is served.
+    fn come_in<W: Wait>(&self, rt: &W, pass: &mut Pass<R>, ticket: u64) -> R::State
+        requires own { IsPassOf self.now pass.old }
+        requires waits { HasDrawn pass.old ticket }
+        ensures same { IsSamePass pass.old pass.new × (pass_view pass.new ≡ pass_view pass.old) }
+        ensures inside { HasEntered pass.new result }
+        ensures holds { IsKept R.holds result (pass_view pass.new) }
+    {
+        for _ in rt.forever() {
+            if self.table.shared.load::<Look<R>>(&mut pass.seat, SERVED) == ticket {
+                return self
+                    .table
+                    .shared
+                    .exchange(&mut pass.seat, STATE, None)
+                    .unwrap();
+            }
+            self.wait_for(rt, ticket);
+        }
+        unreachable!()
+    }
+
+    // Sleeps until the ticket may be served.
+    fn wait_for<W: Wait>(&self, rt: &W, ticket: u64) {
+        let key = self.place_of(ticket).prepare_wait();
+        if self.table.shared.peek(SERVED) != ticket {
+            key.wait(rt);
+        }
+    }
+
+    // Where the pass with this ticket waits.
+    fn place_of(&self, ticket: u64) -> &EventCount {
+        &self.places[(ticket % self.places.len() as u64) as usize]
+    }
+
+    /// Puts the state back and gives the turn to the next ticket. Only the pass that waits with it is woken.
+    pub fn leave<N: NewView<R::View>>(&self, pass: &mut Pass<R>, state: R::State)
+        requires own { IsPassOf self.now pass.old }
+        requires weight { R.weight (N.next (pass_view pass.old)) ≡ R.weight (pass_view pass.old) }
+        requires rule { (taken : R.State) × HasEntered pass.old taken × Carries R.holds taken (pass_view pass.old) state (N.next (pass_view pass.old)) }
+        ensures same { IsSamePass pass.old pass.new }
+        ensures away { IsOut pass.new }
+        ensures view { pass_view pass.new ≡ N.next (pass_view pass.old) }
+    {
+        match self
+            .table
+            .shared
+            .exchange(&mut pass.seat, STATE, Some(state))
+        {
+            None => {}
+            Some(_) => unreachable!(),
+        }
+        let served = self
+            .table
+            .shared
+            .fetch_add::<Give<N>>(&mut pass.seat, SERVED, 1);
+        self.place_of(served.wrapping_add(1)).notify_all();
+    }
+}
+
+// As many event counts, on which no one waits.
+fn event_counts(alloc: Global, count: u32) -> Result<Vec<EventCount>, NoMemory>
+    ensures { IfOk result (λ counts. vec_len counts ≡ count) }
+{
+    let mut counts = Vec::with_capacity(alloc, count as usize)?;
+    for _ in 0..count {
+        counts.push(EventCount::new())?;
+    }
+    Ok(counts)
+}
