@@ -1,5 +1,5 @@
 -- Each kind of step keeps the rule of the table.
-use Rattle.std.proofs.Common.{◌≡◌, ◌≢◌, ℕ, zero, suc, ◌+◌, ◌%◌, ◌^◌, ◌<◌, ◌≤◌, List, [], ◌∷◌, ◌++◌, map, length, get_or, set, sym, refl, ap, ◌∙◌, subst, ⊎_elim, arith, Option, Some}
+use Rattle.std.proofs.Common.{◌≡◌, ◌≢◌, ℕ, zero, suc, ◌+◌, ◌%◌, ◌^◌, ◌<◌, ◌≤◌, List, [], ◌∷◌, ◌++◌, map, get_or, set, sym, refl, ap, ◌∙◌, subst, ⊎_elim, arith, Option, Some}
 use mathlib.Core.Logic.{dite}
 use mathlib.Core.Option as opt
 use mathlib.Core.Option.{some, none, some-injective, some-ne-none}
@@ -10,12 +10,12 @@ use Rattle.std.proofs.Math.Nat.{mod-add-mod}
 use Rattle.std.specs.List.Sorted.{IsPermutation}
 use Rattle.std.proofs.lemmas.List.{map-append}
 use Rattle.std.proofs.lemmas.List.Sorted.{IsPermutation-trans, IsPermutation-sym, IsPermutation-cons, IsPermutation-middle, IsPermutation-to_front}
-use Rattle.atomic_table.specs.Table.{State, Me, Act, Valid, put_back, carried_after, step, keeps, takes, gives, stepped, Allows, Splits, Joins, Final, Seen, opening}
+use Rattle.atomic_table.specs.Table.{State, Me, Act, Valid, put_back, carried_after, step, keeps, takes, gives, stepped, Allows, Splits, Joins, Final, Seen}
 use Rattle.atomic_table.proofs.Lists.{at_set, set_again, set_else, at_snoc, at_map, one_turn}
 use Rattle.sv_turn.specs.declared.stage.Doing.{Doing}
 use Rattle.sv_turn.specs.declared.stage.Stage.{Stage}
 use Rattle.sv_turn.specs.declared.stage.Stage.TheVariants.{Away, Waiting, Inside, Spent}
-use Rattle.sv_turn.specs.Turning.{total, tickets, guests, HasTicket, Knows, home, client, doing, away, Fits, Turning}
+use Rattle.sv_turn.specs.Turning.{tickets, guests, HasTicket, Knows, home, client, doing, away, Fits, Turning}
 use Rattle.sv_turn.specs.Steps.{drew, looked, gave, IsKept, Carries}
 use Rattle.sv_turn.proofs.Totals.{total-set, total-snoc, total-le, total-none, two_in_total, fronted, paired}
 
@@ -347,9 +347,9 @@ module _ {S V : Type 0} (holds : S → List V → Type 0) (blank : V) (weight : 
       alone x (w ∷ xs) (suc i) v at blanks h = alone x xs i v at (λ j u other to. blanks (suc j) u (λ e. other (omega arith)) to)
           (blank_less x xs (subst (λ (z : V). holds x (z ∷ xs)) (blanks 0 w (λ e. omega arith) refl) h))
 
-      pub closes : (id : ℕ) (d : Doing S V) (ws : List ℕ) (xs : List (Option S)) → d.stage ≡ Away → weight d.client ≡ all → Final (Seen Rule id d) ws xs
-          → (x : S) × (get_elem? xs 0 ≡ some (Some x)) × holds x (d.client ∷ [])
-      closes id d ws xs is heavy final = let s = final.0 in let r = final.1.0 in let at = final.1.1 in let whole = r.whole in
+      pub closes : (id : ℕ) (d : Doing S V) (ws : List ℕ) (xs : List (Option S)) (slot : Option S) → d.stage ≡ Away → weight d.client ≡ all → Final (Seen Rule id d) ws xs → get_elem? xs 0 ≡ some slot
+          → (x : S) × (slot ≡ Some x) × holds x (d.client ∷ [])
+      closes id d ws xs slot is heavy final found = let s = final.0 in let r = final.1.0 in let at = final.1.1 in let whole = r.whole in
           let light : (j : ℕ) (e : Doing S V) → j ≢ id → get_elem? s.views j ≡ some e → weight e.client ≡ 0 =
           λ j e other to. let both = two_in_total (λ (z : Doing S V). weight z.client) s.views j id e d to at other in omega arith in
           let none_in : r.inside ≡ 0 = r.within ∙ total-none (λ (e : Doing S V). guests e.stage) s.views
@@ -358,7 +358,11 @@ module _ {S V : Type 0} (holds : S → List V → Type 0) (blank : V) (weight : 
           (λ (other : j ≢ id). light_guest blank weight e.stage e.client (r.fits j e to) (light j e other to))) in
           let at_home : get_elem? s.homes 0 ≡ some (some (Some r.state)) = ap (λ (l : List (opt.Option (Option S))). get_elem? l 0) (r.homes ∙ ap (λ (n : ℕ). home n r.state ∷ []) none_in) in (
             r.state,
-            final.4 0 (Some r.state) at_home,
+            some-injective slot (Some r.state) (sym found ∙ final.4 0 (Some r.state) at_home),
             alone r.state (map client s.views) id d.client (at_map client s.views id d at) (λ j v other to.
                 let e = unmapped s.views j v to in subst (λ (z : V). z ≡ blank) e.2 (light_blank blank weight e.0.stage e.0.client (r.fits j e.0 e.1) (light j e.0 other e.1))) r.kept,
           )
+
+-- what holds of the state in the slot holds of the one that is unwrapped
+pub unwraps : {S : Type 0} (holds : S → Type 0) (slot : Option S) (x y : S) → slot ≡ Some x → slot ≡ Some y → holds x → holds y
+unwraps holds slot x y e f h = subst holds (cc (e, f)) h

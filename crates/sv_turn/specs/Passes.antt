@@ -3,7 +3,6 @@ use Rattle.std.specs.Prelude.{◌≡◌, ℕ, ◌%◌, ◌^◌, [], ◌∷◌, N
 use Rattle.sv_turn.specs.declared.pass.Pass.{Pass}
 use Rattle.sv_turn.specs.declared.turn.Turn.{Turn}
 use Rattle.sv_turn.specs.declared.stage.Stage.TheVariants.{Away, Waiting, Inside}
-use Rattle.sv_turn.specs.Turning.{doing}
 
 module _ {R S V : Type 0} where
   -- what the pass stands for

@@ -32,7 +32,7 @@ pub struct Turn<R: TurnRule> {
 }
 
 impl<R: TurnRule> Turn<R> {
-    ghost use Rattle.std.specs.Prelude.{ℕ, ◌≤◌, ◌%◌, ◌^◌, [], ◌∷◌, IfErr};
+    ghost use Rattle.std.specs.Prelude.{ℕ, ◌≤◌, ◌%◌, ◌^◌, [], ◌∷◌, IfErr, OnErr};
     ghost use Rattle.sv_turn.specs.Passes.{pass_view, IsOut, HasDrawn, HasEntered, IsSamePass, IsPassOf, first_view, turn_events};
     ghost use Rattle.sv_turn.specs.Steps.{IsKept, Carries};
 
@@ -147,6 +147,81 @@ impl<R: TurnRule> Turn<R> {
             .shared
             .fetch_add::<Give<N>>(&mut pass.seat, SERVED, 1);
         self.place_of(served.wrapping_add(1)).notify_all();
+    }
+
+    /// Does what `leave` does, sleeps until a wake of the event, and enters again. It may also come back for no reason, and
+    /// other passes may have had the turn in between: look again at what was waited for.
+    pub fn sleep_on<N: NewView<R::View>, W: Wait>(
+        &self,
+        rt: &W,
+        pass: &mut Pass<R>,
+        state: R::State,
+        event: u32,
+    ) -> R::State
+        requires own { IsPassOf self.now pass.old }
+        requires event { event < turn_events self.now }
+        requires weight { R.weight (N.next (pass_view pass.old)) ≡ R.weight (pass_view pass.old) }
+        requires rule { (taken : R.State) × HasEntered pass.old taken × Carries R.holds taken (pass_view pass.old) state (N.next (pass_view pass.old)) }
+        ensures same { IsSamePass pass.old pass.new }
+        ensures view { pass_view pass.new ≡ N.next (pass_view pass.old) }
+        ensures inside { HasEntered pass.new result }
+        ensures holds { IsKept R.holds result (pass_view pass.new) }
+    {
+        let key = self.events[event as usize].prepare_wait();
+        self.leave::<N>(pass, state);
+        key.wait(rt);
+        self.enter(rt, pass)
+    }
+
+    /// Wakes all that sleep on the event, or are about to. It needs no pass.
+    pub fn wake(&self, event: u32)
+        requires { event < turn_events self.now }
+    {
+        self.events[event as usize].notify_all();
+    }
+
+    /// Cuts what the pass stands for in two. The new pass has the right part.
+    pub fn split<C: CutView<R::View>>(&self, pass: &mut Pass<R>) -> Result<Pass<R>, NoMemory>
+        requires own { IsPassOf self.now pass.old }
+        requires away { IsOut pass.old }
+        requires cuts { R.cuts (pass_view pass.old) (C.left (pass_view pass.old)) (C.right (pass_view pass.old)) }
+        ensures same { IsSamePass pass.old pass.new × IsOut pass.new }
+        ensures ok { IfOk result (λ other. IsPassOf self.now other × IsOut other × (pass_view pass.new ≡ C.left (pass_view pass.old)) × (pass_view other ≡ C.right (pass_view pass.old))) }
+        ensures err { OnErr result (pass_view pass.new ≡ pass_view pass.old) }
+    {
+        let seat = self.table.shared.split_seat::<Cut<C>>(&mut pass.seat);
+        Ok(Pass { seat })
+    }
+
+    /// Puts what two passes stand for together. The other pass is spent.
+    pub fn join<J: WholeView<R::View>>(&self, pass: &mut Pass<R>, other: Pass<R>)
+        requires own { IsPassOf self.now pass.old × IsPassOf self.now other }
+        requires away { IsOut pass.old × IsOut other }
+        requires cuts { R.cuts (J.whole (pass_view pass.old) (pass_view other)) (pass_view pass.old) (pass_view other) }
+        ensures same { IsSamePass pass.old pass.new × IsOut pass.new }
+        ensures view { pass_view pass.new ≡ J.whole (pass_view pass.old) (pass_view other) }
+    {
+        self.table
+            .shared
+            .join_seat::<Whole<R, J>>(&mut pass.seat, other.into_seat());
+    }
+
+    /// Gives the state back, by the one pass that has the whole weight.
+    pub fn close(self, pass: Pass<R>) -> R::State
+        requires own { IsPassOf self pass }
+        requires away { IsOut pass }
+        requires whole { R.weight (pass_view pass) ≡ R.weight (first_view self) }
+        ensures { R.holds result (pass_view pass ∷ []) }
+    {
+        let Turn {
+            table,
+            places: _,
+            events: _,
+        } = self;
+        let mut closed = table.close_with(pass.into_seat());
+        let home = closed.take(STATE);
+        closed.free();
+        home.unwrap()
     }
 }
 
