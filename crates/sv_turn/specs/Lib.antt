@@ -1,3 +1,4 @@
+pub mod Counted
 pub mod Passes
 pub mod Steps
 pub mod Turning
