@@ -10,6 +10,7 @@ use crate::steps::{Cut, Draw, Give, Look, Tickets, Whole};
 use atomic_table::{Refused, Table};
 use crossbeam_utils::sync::EventCount;
 use std::alloc::{AllocFailed, Global};
+use std::hint::spin_loop;
 use std::sync::Wait;
 
 // The word that counts tickets drawn, the word of the ticket that is served, and the slot of the state.
@@ -19,12 +20,18 @@ const SERVED: usize = 1;
 
 const STATE: usize = 0;
 
-// The tickets that lie this far apart wait at one place. With no more passes than that, each waits alone.
+// Tickets that lie this far apart wait at one place. With no more passes than that, each waits alone.
 const PLACES: u32 = 64;
+
+// How often a pass looks for its ticket before it sleeps, and how many tickets may come first while it does.
+const LOOKS: u32 = 100;
+
+const NEAR: u64 = 3;
 
 /// A lock that owns a state, which is moved out to the pass whose turn it is. It has no drop: it is spent by `close`.
 pub struct Turn<R: TurnRule> {
     table: Table<Option<R::State>, Doing<R::State, R::View>, Origin<R::View>, Tickets<R>, Global>,
+    // Where passes wait for the turn, each at the place of its ticket.
     places: Vec<EventCount>,
     events: Vec<EventCount>,
     ghost counts: { (table.shared.table_id.words ≡ 2) × (table.shared.table_id.slots ≡ 1) },
@@ -112,12 +119,27 @@ impl<R: TurnRule> Turn<R> {
         unreachable!()
     }
 
-    // Sleeps until the ticket may be served.
+    // Sleeps until the ticket may be served. Turns are short, so it looks for a while first.
     fn wait_for<W: Wait>(&self, rt: &W, ticket: u64) {
+        if self.is_served_soon(ticket) {
+            return;
+        }
         let key = self.place_of(ticket).prepare_wait();
         if self.table.shared.peek(SERVED) != ticket {
             key.wait(rt);
         }
+    }
+
+    // Looks for the ticket, as long as few others come first.
+    fn is_served_soon(&self, ticket: u64) -> bool {
+        for _ in 0..LOOKS {
+            let ahead = ticket.wrapping_sub(self.table.shared.peek(SERVED));
+            if ahead == 0 || ahead > NEAR {
+                return ahead == 0;
+            }
+            spin_loop();
+        }
+        false
     }
 
     // Where the pass with this ticket waits.
