@@ -1,5 +1,5 @@
 -- Each kind of step keeps the rule of the table.
-use Rattle.std.proofs.Common.{◌≡◌, ◌≢◌, ℕ, zero, suc, ◌+◌, ◌%◌, ◌^◌, ◌<◌, ◌≤◌, List, [], ◌∷◌, ◌++◌, map, get_or, set, sym, refl, ap, ◌∙◌, subst, ⊎_elim, arith, Option, Some}
+use Rattle.std.proofs.Common.{◌≡◌, ◌≢◌, ℕ, zero, suc, ◌+◌, ◌%◌, ◌^◌, ◌<◌, ◌≤◌, List, [], ◌∷◌, ◌++◌, map, get_or, set, sym, refl, ap, ◌∙◌, subst, ⊎_elim, arith, Option, Some, None, IsSome}
 use mathlib.Core.Logic.{dite}
 use mathlib.Core.Option as opt
 use mathlib.Core.Option.{some, none, some-injective, some-ne-none}
@@ -10,7 +10,7 @@ use Rattle.std.proofs.Math.Nat.{mod-add-mod}
 use Rattle.std.specs.List.Sorted.{IsPermutation}
 use Rattle.std.proofs.lemmas.List.{map-append}
 use Rattle.std.proofs.lemmas.List.Sorted.{IsPermutation-trans, IsPermutation-sym, IsPermutation-cons, IsPermutation-middle, IsPermutation-to_front}
-use Rattle.atomic_table.specs.Table.{State, Me, Act, Valid, put_back, carried_after, step, keeps, takes, gives, stepped, Allows, Splits, Joins, Final, Seen}
+use Rattle.atomic_table.specs.Table.{State, Me, Act, Valid, put_back, rest, carried_after, step, keeps, takes, gives, stepped, Allows, Splits, Joins, Final, Seen}
 use Rattle.atomic_table.proofs.Lists.{at_set, set_again, set_else, at_snoc, at_map, one_turn}
 use Rattle.sv_turn.specs.declared.stage.Doing.{Doing}
 use Rattle.sv_turn.specs.declared.stage.Stage.{Stage}
@@ -227,7 +227,7 @@ module _ {S V : Type 0} (holds : S → List V → Type 0) (blank : V) (weight : 
     pub looks : (slots id : ℕ) (me : Mine) → Allows Rule slots id me 1 (λ n. n) (looked holds (step slots 1 0 0 none) me)
     looks slots id me s r _ at _ = looks_at s r slots id me at me.0.stage refl
 
-    pub gives_on : (slots id : ℕ) (me : Mine) (t : ℕ) (x y : S) (next : V → V) → me.0.stage ≡ Inside t x → me.1 ≡ (0, Some y) ∷ [] → weight (next me.0.client) ≡ weight me.0.client
+    gives_on : (slots id : ℕ) (me : Mine) (t : ℕ) (x y : S) (next : V → V) → me.0.stage ≡ Inside t x → me.1 ≡ (0, Some y) ∷ [] → weight (next me.0.client) ≡ weight me.0.client
         → Carries holds x me.0.client y (next me.0.client) → Allows Rule slots id me 1 (λ n. (n + 1) % 2 ^ 64) (gave next (step slots 1 1 0 none) me)
     gives_on slots id me t x y next is has heavy carries s r _ at _ = let v : V = me.0.client in let w : Doing S V = away (next v) in
         let known = subst (Knows r.served r.drawn r.inside r.state) is (r.each id me.0 at) in let below = known.1 in let one = known.2 in
@@ -262,6 +262,13 @@ module _ {S V : Type 0} (holds : S → List V → Type 0) (blank : V) (weight : 
           },
           (refl, refl),
         )
+
+    -- the same after the state was put into the slot that the pass holds
+    pub gives_back : (slots id : ℕ) (before after : Mine) (t : ℕ) (x y : S) (next : V → V) → after ≡ (before.0, (0, Some y) ∷ rest before.1) → before.0.stage ≡ Inside t x → before.1 ≡ (0, None) ∷ []
+        → weight (next before.0.client) ≡ weight before.0.client → Carries holds x before.0.client y (next before.0.client) → Allows Rule slots id after 1 (λ n. (n + 1) % 2 ^ 64) (gave next (step slots 1 1 0 none) after)
+    gives_back slots id before after t x y next now is has heavy carries =
+        subst (λ (me : Mine). Allows Rule slots id me 1 (λ n. (n + 1) % 2 ^ 64) (gave next (step slots 1 1 0 none) me)) (sym now)
+            (gives_on slots id (before.0, (0, Some y) ∷ rest before.1) t x y next is (ap (λ (l : List (ℕ × Option S)). (0, Some y) ∷ rest l) has) heavy carries)
 
     module _ (cuts : V → V → V → Type 0) (weighs : (v a b : V) → cuts v a b → (weight v ≡ weight a + weight b) × (0 < weight a) × (0 < weight b)) where
       pub splits : (cut : (x : S) (v a b : V) (xs : List V) → cuts v a b → holds x (v ∷ xs) → holds x (a ∷ b ∷ xs))
@@ -362,6 +369,9 @@ module _ {S V : Type 0} (holds : S → List V → Type 0) (blank : V) (weight : 
             alone r.state (map client s.views) id d.client (at_map client s.views id d at) (λ j v other to.
                 let e = unmapped s.views j v to in subst (λ (z : V). z ≡ blank) e.2 (light_blank blank weight e.0.stage e.0.client (r.fits j e.0 e.1) (light j e.0 other e.1))) r.kept,
           )
+
+pub unwrappable : {S : Type 0} (slot : Option S) (x : S) → slot ≡ Some x → IsSome slot
+unwrappable slot x e = subst IsSome (sym e) refl
 
 -- what holds of the state in the slot holds of the one that is unwrapped
 pub unwraps : {S : Type 0} (holds : S → Type 0) (slot : Option S) (x y : S) → slot ≡ Some x → slot ≡ Some y → holds x → holds y

@@ -106,13 +106,10 @@ impl<R: TurnRule> Turn<R> {
         ensures inside { HasEntered pass.new result }
         ensures holds { IsKept R.holds result (pass_view pass.new) }
     {
+        let shared = &self.table.shared;
         for _ in rt.forever() {
-            if self.table.shared.load::<Look<R>>(&mut pass.seat, SERVED) == ticket {
-                return self
-                    .table
-                    .shared
-                    .exchange(&mut pass.seat, STATE, None)
-                    .unwrap();
+            if shared.load::<Look<R>>(&mut pass.seat, SERVED) == ticket {
+                return shared.exchange(&mut pass.seat, STATE, None).unwrap();
             }
             self.wait_for(rt, ticket);
         }
@@ -156,18 +153,12 @@ impl<R: TurnRule> Turn<R> {
         ensures away { IsOut pass.new }
         ensures view { pass_view pass.new ≡ N.next (pass_view pass.old) }
     {
-        match self
-            .table
-            .shared
-            .exchange(&mut pass.seat, STATE, Some(state))
-        {
+        let shared = &self.table.shared;
+        match shared.exchange(&mut pass.seat, STATE, Some(state)) {
             None => {}
             Some(_) => unreachable!(),
         }
-        let served = self
-            .table
-            .shared
-            .fetch_add::<Give<N>>(&mut pass.seat, SERVED, 1);
+        let served = shared.fetch_add::<Give<N>>(&mut pass.seat, SERVED, 1);
         self.place_of(served.wrapping_add(1)).notify_all();
     }
 
