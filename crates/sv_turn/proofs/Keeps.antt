@@ -268,7 +268,7 @@ module _ {S V : Type 0} (holds : S → List V → Type 0) (blank : V) (weight : 
         → weight (next before.0.client) ≡ weight before.0.client → Carries holds x before.0.client y (next before.0.client) → Allows Rule slots id after 1 (λ n. (n + 1) % 2 ^ 64) (gave next (step slots 1 1 0 none) after)
     gives_back slots id before after t x y next now is has heavy carries =
         subst (λ (me : Mine). Allows Rule slots id me 1 (λ n. (n + 1) % 2 ^ 64) (gave next (step slots 1 1 0 none) me)) (sym now)
-            (gives_on slots id (before.0, (0, Some y) ∷ rest before.1) t x y next is (ap (λ (l : List (ℕ × Option S)). (0, Some y) ∷ rest l) has) heavy carries)
+        (gives_on slots id (before.0, (0, Some y) ∷ rest before.1) t x y next is (ap (λ (l : List (ℕ × Option S)). (0, Some y) ∷ rest l) has) heavy carries)
 
     module _ (cuts : V → V → V → Type 0) (weighs : (v a b : V) → cuts v a b → (weight v ≡ weight a + weight b) × (0 < weight a) × (0 < weight b)) where
       pub splits : (cut : (x : S) (v a b : V) (xs : List V) → cuts v a b → holds x (v ∷ xs) → holds x (a ∷ b ∷ xs))

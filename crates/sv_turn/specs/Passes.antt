@@ -1,8 +1,9 @@
 -- What a clause says of a turn and its passes.
-use Rattle.std.specs.Prelude.{◌≡◌, ℕ, ◌%◌, ◌^◌, [], ◌∷◌, None, vec_len}
+use Rattle.std.specs.Prelude.{◌≡◌, ℕ, ◌%◌, ◌^◌, List, [], ◌∷◌, None, vec_len}
 use Rattle.sv_turn.specs.declared.pass.Pass.{Pass}
 use Rattle.sv_turn.specs.declared.turn.Turn.{Turn}
 use Rattle.sv_turn.specs.declared.stage.Stage.TheVariants.{Away, Waiting, Inside}
+use Rattle.sv_turn.specs.Steps.{Carries}
 
 module _ {R S V : Type 0} where
   -- what the pass stands for
@@ -20,6 +21,10 @@ module _ {R S V : Type 0} where
   -- the pass has entered, and the state was this when it was taken
   abbrev pub HasEntered : Pass R S V → S → Type 0
   HasEntered p state = (t : ℕ) × (p.seat.me.0.stage ≡ Inside t state) × (p.seat.me.1 ≡ (0, None) ∷ [])
+
+  -- the pass has entered, and the caller may leave with this state and this view, whatever the other passes stand for
+  abbrev pub MayLeave : (S → List V → Type 0) → Pass R S V → S → V → Type 0
+  MayLeave holds p state next = (taken : S) × HasEntered p taken × Carries holds taken (pass_view p) state next
 
   -- it is the same pass, later
   abbrev pub IsSamePass : Pass R S V → Pass R S V → Type 0

@@ -21,18 +21,22 @@ pub trait TurnRule {
     // The first view may be cut into the other two.
     ghost cuts: { Self.View → Self.View → Self.View → Type 0 };
 
+    // It does not matter in which order the views are listed.
     ghost any_order: { (s : Self.State) (xs ys : List Self.View) → IsPermutation xs ys → holds s xs → holds s ys };
 
     ghost blank_light: { weight blank ≡ 0 };
 
+    // A blank view adds nothing, and takes nothing away.
     ghost blank_more: { (s : Self.State) (xs : List Self.View) → holds s xs → holds s (blank ∷ xs) };
 
     ghost blank_less: { (s : Self.State) (xs : List Self.View) → holds s (blank ∷ xs) → holds s xs };
 
+    // A view may stand in the place of the two that it is cut into, and they in its place.
     ghost cut: { (s : Self.State) (v a b : Self.View) (xs : List Self.View) → cuts v a b → holds s (v ∷ xs) → holds s (a ∷ b ∷ xs) };
 
     ghost uncut: { (s : Self.State) (v a b : Self.View) (xs : List Self.View) → cuts v a b → holds s (a ∷ b ∷ xs) → holds s (v ∷ xs) };
 
+    // The parts of a cut weigh something each, and together what the whole weighs.
     ghost weighs: { (v a b : Self.View) → cuts v a b → (weight v ≡ weight a + weight b) × (0 < weight a) × (0 < weight b) };
 }
 

@@ -39,9 +39,9 @@ pub struct Turn<R: TurnRule> {
 }
 
 impl<R: TurnRule> Turn<R> {
-    ghost use Rattle.std.specs.Prelude.{ℕ, ◌≤◌, ◌%◌, ◌^◌, [], ◌∷◌, IfErr, OnErr};
-    ghost use Rattle.sv_turn.specs.Passes.{pass_view, IsOut, HasDrawn, HasEntered, IsSamePass, IsPassOf, first_view, turn_events};
-    ghost use Rattle.sv_turn.specs.Steps.{IsKept, Carries};
+    ghost use Rattle.std.specs.Prelude.{ℕ, ◌≤◌, ◌%◌, ◌^◌, [], ◌∷◌, IfErr, OnOk, OnErr};
+    ghost use Rattle.sv_turn.specs.Passes.{pass_view, IsOut, HasDrawn, HasEntered, MayLeave, IsSamePass, IsPassOf, first_view, turn_events};
+    ghost use Rattle.sv_turn.specs.Steps.{IsKept};
 
     /// A turn with this state at home, and the one pass, which has the whole weight. The events are the numbers below `events`.
     pub fn new<F: FirstView<R::View>>(
@@ -52,7 +52,8 @@ impl<R: TurnRule> Turn<R> {
         requires rule { R.holds state (F.first ∷ []) }
         requires weight { (0 < R.weight F.first) × (R.weight F.first ≤ 2 ^ 63) }
         requires events { 0 < events }
-        ensures ok { IfOk result (λ r. IsPassOf r.0 r.1 × IsOut r.1 × (pass_view r.1 ≡ F.first) × (first_view r.0 ≡ F.first) × (turn_events r.0 ≡ events)) }
+        ensures turn { IfOk result (λ r. (first_view r.0 ≡ F.first) × (turn_events r.0 ≡ events)) }
+        ensures pass { IfOk result (λ r. IsPassOf r.0 r.1 × IsOut r.1 × (pass_view r.1 ≡ F.first)) }
         ensures err { IfErr result (λ e. e.0 ≡ state) }
     {
         let Ok(places) = event_counts(alloc, PLACES) else {
@@ -148,7 +149,7 @@ impl<R: TurnRule> Turn<R> {
     pub fn leave<N: NewView<R::View>>(&self, pass: &mut Pass<R>, state: R::State)
         requires own { IsPassOf self.now pass.old }
         requires weight { R.weight (N.next (pass_view pass.old)) ≡ R.weight (pass_view pass.old) }
-        requires rule { (taken : R.State) × HasEntered pass.old taken × Carries R.holds taken (pass_view pass.old) state (N.next (pass_view pass.old)) }
+        requires rule { MayLeave R.holds pass.old state (N.next (pass_view pass.old)) }
         ensures same { IsSamePass pass.old pass.new }
         ensures away { IsOut pass.new }
         ensures view { pass_view pass.new ≡ N.next (pass_view pass.old) }
@@ -174,7 +175,7 @@ impl<R: TurnRule> Turn<R> {
         requires own { IsPassOf self.now pass.old }
         requires event { event < turn_events self.now }
         requires weight { R.weight (N.next (pass_view pass.old)) ≡ R.weight (pass_view pass.old) }
-        requires rule { (taken : R.State) × HasEntered pass.old taken × Carries R.holds taken (pass_view pass.old) state (N.next (pass_view pass.old)) }
+        requires rule { MayLeave R.holds pass.old state (N.next (pass_view pass.old)) }
         ensures same { IsSamePass pass.old pass.new }
         ensures view { pass_view pass.new ≡ N.next (pass_view pass.old) }
         ensures inside { HasEntered pass.new result }
@@ -199,7 +200,8 @@ impl<R: TurnRule> Turn<R> {
         requires away { IsOut pass.old }
         requires cuts { R.cuts (pass_view pass.old) (C.left (pass_view pass.old)) (C.right (pass_view pass.old)) }
         ensures same { IsSamePass pass.old pass.new × IsOut pass.new }
-        ensures ok { IfOk result (λ other. IsPassOf self.now other × IsOut other × (pass_view pass.new ≡ C.left (pass_view pass.old)) × (pass_view other ≡ C.right (pass_view pass.old))) }
+        ensures left { OnOk result (pass_view pass.new ≡ C.left (pass_view pass.old)) }
+        ensures right { IfOk result (λ other. IsPassOf self.now other × IsOut other × (pass_view other ≡ C.right (pass_view pass.old))) }
         ensures err { OnErr result (pass_view pass.new ≡ pass_view pass.old) }
     {
         let seat = self.table.shared.split_seat::<Cut<C>>(&mut pass.seat);
