@@ -1,3 +1,4 @@
 pub mod Times
 pub mod Told
 pub mod Kept
+pub mod Walk

@@ -51,7 +51,7 @@ IsTold-pushed lists places l x ys t inside listed absent more = record {
   ];
 }
 
-get_or-without : (x : ℕ) (lists : List (List ℕ)) (k : ℕ) → get_or (map (without x) lists) k [] ≡ without x (get_or lists k [])
+pub get_or-without : (x : ℕ) (lists : List (List ℕ)) (k : ℕ) → get_or (map (without x) lists) k [] ≡ without x (get_or lists k [])
 get_or-without x [] k = refl
 get_or-without x (xs ∷ lists) zero = refl
 get_or-without x (xs ∷ lists) (suc k) = get_or-without x lists k
@@ -76,3 +76,9 @@ set-without lists places l x t p inside =
           let absent : times x (get_or lists k []) ≡ 0 = t.told k x ∙ ap (λ q. stands q k) p ∙ none-if_other l k (λ q. d (sym q)) in
           rw (get_or-set_other lists l k (without x (get_or lists l [])) [] d, get_or-without x lists k) (sym (without_absent x (get_or lists k []) absent))
     ])
+
+-- taking off a number that is on no list changes nothing
+pub map-without_absent : (x : ℕ) (lists : List (List ℕ)) → ((k : ℕ) → times x (get_or lists k []) ≡ 0) → map (without x) lists ≡ lists
+map-without_absent x lists absent =
+    ext_get_or [] (map (without x) lists) lists (length-map lists (without x))
+    (λ k h. get_or-without x lists k ∙ without_absent x (get_or lists k []) (absent k))

@@ -1,0 +1,33 @@
+use Rattle.std.proofs.Common.{sym, subst, ◌∙◌, arith, inl, inr, refl}
+use Rattle.std.proofs.lemmas.Bool.{cases_lt}
+use Rattle.sv_links.specs.Arrangement.{times}
+use Rattle.sv_cache.specs.Getblk.{IsCause}
+use Rattle.sv_cache.proofs.Holder.{unnamed-holder, named-holder, named-inside, free-cause}
+use Rattle.sv_cache.proofs.cache.CacheCore.attempt.Goals as goal
+use Rattle.sv_cache.proofs.cache.CacheCore.attempt.Goals.{In-Some}
+
+pub reuse-requires : goal.reuse-requires
+reuse-requires g c = record { unnamed = unnamed-holder c.args.self.now c.args.block c.find.ensures.lawful.one_buffer (sym c.find.ensures.holder ∙ c.in_default.is) }
+
+pub returns-in_default-clause-cause : goal.returns-in_default-clause-cause
+returns-in_default-clause-cause g c =
+    subst (λ r. IsCause c.args.self.now c.args.block r) (sym c.reuse.ensures.scenario)
+    (free-cause c.args.self.now c.args.block (unnamed-holder c.args.self.now c.args.block c.find.ensures.lawful.one_buffer (sym c.find.ensures.holder ∙ c.in_default.is)) c.args.self.now.free refl)
+
+pub returns-then-not-is_free-clause-cause : goal.returns-then-not-is_free-clause-cause
+returns-then-not-is_free-clause-cause g c =
+    let named = named-holder c.args.self.now c.in-Some.buffer c.args.block (sym c.find.ensures.holder ∙ c.in-Some.is) in (
+      named,
+      record {
+        in_range = named-inside c.args.self.now c.in-Some.buffer c.args.block named;
+        busy = elim (cases_lt 0 (times c.in-Some.buffer c.args.self.now.free)) [
+          | inl on ↦ let told = c.is_free.ensures.free.1 on in let not = c.if-not-is_free.true in absurd cc
+          | inr none ↦ omega arith
+        ];
+      },
+    )
+
+pub returns-clause-cause : goal.returns-clause-cause
+returns-clause-cause g c =
+    let named = named-holder c.args.self.now c.in-Some.buffer c.args.block (sym c.find.ensures.holder ∙ c.in-Some.is) in
+    (named, c.is_free.ensures.free.0 c.if-not-is_free.false)

@@ -1,0 +1,15 @@
+use Rattle.std.proofs.Common.{sym, subst, ap, ◌∙◌, None}
+use Rattle.sv_cache.specs.Cache.{Buffer, IsBusy}
+use Rattle.sv_cache.proofs.Kept.{kept-lend, header-buffer}
+use Rattle.sv_cache.proofs.cache.CacheCore.lend.Goals as goal
+
+pub invariant_of-self : goal.invariant_of-self
+invariant_of-self g c =
+    let busy = subst (λ v. IsBusy v c.args.buffer) (sym c.self.view_is) c.requires.busy in
+    kept-lend c.self.inside c.args.buffer c.lend.new.self c.self.invariant busy (c.lend.ensures.rest ∙ ap (λ (x : Buffer). record x { bytes = None }) (header-buffer c.self.inside c.args.buffer c.index_mut.result.now busy.in_range c.index_mut.ensures.value))
+
+pub returns-clause-lawful : goal.returns-clause-lawful
+returns-clause-lawful g c =
+    let busy = subst (λ v. IsBusy v c.args.buffer) (sym c.self.view_is) c.requires.busy in
+    let kept = kept-lend c.self.inside c.args.buffer c.lend.new.self c.self.invariant busy (c.lend.ensures.rest ∙ ap (λ (x : Buffer). record x { bytes = None }) (header-buffer c.self.inside c.args.buffer c.index_mut.result.now busy.in_range c.index_mut.ensures.value)) in
+    kept.lawful

@@ -1,0 +1,11 @@
+use Rattle.std.proofs.Common.{refl, Some}
+use Rattle.sv_cache.proofs.New.{kept-new}
+use Rattle.sv_cache.proofs.cache.CacheCore.new.Goals as goal
+
+pub invariant_of-result : goal.invariant_of-result
+invariant_of-result g c = kept-new _ c.args.disk c.args.buffers c.args.geometry c.in-Ok.ensures.headers c.in-Ok.ensures.queues c.in-Ok.ensures.free refl refl
+
+pub returns-in-Ok-clause-lawful : goal.returns-in-Ok-clause-lawful
+returns-in-Ok-clause-lawful g c =
+    let kept = kept-new (record { headers = c.in-Ok.parts.headers; queues = c.in-Ok.parts.queues; free = c.in-Ok.parts.free; geometry = c.args.geometry; device = Some c.args.disk }) c.args.disk c.args.buffers c.args.geometry c.in-Ok.ensures.headers c.in-Ok.ensures.queues c.in-Ok.ensures.free refl refl in
+    kept.lawful

@@ -1,0 +1,4 @@
+pub mod Cache
+pub mod Getblk
+pub mod Brelse
+pub mod Lawful
