@@ -55,7 +55,7 @@ lawful-lend c k h busy = record {
 }
 
 -- a buffer off the free list goes on it once
-times-freed : (free : List ℕ) (k j : ℕ) (how : Release) → times j (freed free k how) ≡ times j free + one_if (k == j)
+pub times-freed : (free : List ℕ) (k j : ℕ) (how : Release) → times j (freed free k how) ≡ times j free + one_if (k == j)
 times-freed free k j Valid = times-push k j free
 times-freed free k j Delayed = times-push k j free
 times-freed free k j Old = times-cons k j free

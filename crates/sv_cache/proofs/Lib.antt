@@ -2,3 +2,4 @@ pub mod Laws
 pub mod Kept
 pub mod Holder
 pub mod New
+pub mod Frames

@@ -2,3 +2,4 @@ pub mod Cache
 pub mod Getblk
 pub mod Brelse
 pub mod Lawful
+pub mod Held

@@ -1,11 +1,12 @@
 // The cache: all buffers, their hash queues and the free list.
-ghost use Rattle.std.specs.Prelude.{◌≡◌, ◌↔◌, ◌<◌, ◌*◌, ℕ, None, Some, IfOk, IfErr, IsTrue, IsSome, find, length, map, slice_set, replicate, vec_len, [], ◌∷◌};
+ghost use Rattle.std.specs.Prelude.{◌≡◌, ◌↔◌, ◌<◌, ◌*◌, ℕ, None, Some, IfOk, IfErr, IsTrue, IfSome, find, length, map, slice_set, replicate, vec_len, [], ◌∷◌};
 ghost use Rattle.std.specs.List.{range_with_len};
 ghost use Rattle.sv_form.specs.Geometry.{IsGeometry};
-ghost use Rattle.sv_links.specs.Arrangement.{without, IsArranged};
+ghost use Rattle.sv_links.specs.Arrangement.{list_at, without, IsArranged, IsOnNone};
 ghost use Rattle.sv_cache.specs.Cache.{Cache, buffer_at, is_delayed, new_buffer, holder, IsFree, IsBusy, IsBufferCount, new_cache};
 ghost use Rattle.sv_cache.specs.Getblk.{scenario_of, after_search, IsCause, IsUnnamed, reuses, renamed};
-ghost use Rattle.sv_cache.specs.Brelse.{after_lend, after_release};
+ghost use Rattle.sv_cache.specs.Held.{IsHeld, given};
+ghost use Rattle.sv_cache.specs.Brelse.{after_lend, after_release, freed};
 
 use crate::header::Header;
 use crate::{HASH_QUEUES, NoMemory, Release, Scenario};
@@ -79,6 +80,7 @@ impl<D> CacheCore<D> {
         ensures scenario { result ≡ scenario_of self.old block }
         ensures after { self.new ≡ after_search self.old block result }
         ensures cause { IsCause self.old block result }
+        ensures held { IfSome (given result) (IsHeld self.new) }
         ensures lawful { IsLawful self.new }
     {
         let Some(buffer) = self.find(block) else {
@@ -93,8 +95,7 @@ impl<D> CacheCore<D> {
 
     /// Moves the bytes of a busy buffer out.
     pub fn lend(&mut self, buffer: u32) -> Vec<u8>
-        requires busy { IsBusy self.old buffer }
-        requires home { IsSome (buffer_at self.old buffer).bytes }
+        requires { IsHeld self.old buffer }
         ensures lent { (buffer_at self.old buffer).bytes ≡ Some result.items }
         ensures size { vec_len result ≡ self.old.geometry.block_size }
         ensures after { self.new ≡ after_lend self.old buffer }
@@ -112,12 +113,7 @@ impl<D> CacheCore<D> {
         ensures lawful { IsLawful self.new }
     {
         self.headers[buffer as usize].give_back(bytes, how);
-        match how {
-            Release::Valid | Release::Delayed => self.free.push_tail(FREE, buffer),
-            Release::Old | Release::Invalid | Release::FailedWrite => self
-                .free
-                .push_head(FREE, buffer),
-        }
+        put_on(&mut self.free, buffer, how);
     }
 
     /// Whether the buffer's bytes are those of its block.
@@ -201,6 +197,20 @@ impl<D> CacheCore<D> {
         }
     }
 
+    /// Ends the cache, with all bytes that it has, and hands the device back if it is at home.
+    pub fn into_device(self) -> Option<D>
+        ensures { result ≡ self.device }
+    {
+        let CacheCore {
+            headers: _,
+            queues: _,
+            free: _,
+            geometry: _,
+            device,
+        } = self;
+        device
+    }
+
     /// The buffer that names the block, by its hash queue.
     fn find(&self, block: u32) -> Option<u32>
         ensures holder { result ≡ holder self.now block }
@@ -256,6 +266,20 @@ impl<D> CacheCore<D> {
     }
 }
 
+/// Puts a buffer on the free list: to the tail, or to the head where it should be reused soon.
+fn put_on(free: &mut Lists, buffer: u32, how: Release)
+    requires one_list { length free.old.lists ≡ 1 }
+    requires in_range { buffer < free.old.numbers }
+    requires on_none { IsOnNone free.old buffer }
+    ensures put { free.new ≡ record free.old { lists = slice_set free.old.lists 0 (freed (list_at free.old 0) buffer how) } }
+    ensures arranged { IsArranged free.new }
+{
+    match how {
+        Release::Valid | Release::Delayed => free.push_tail(FREE, buffer),
+        Release::Old | Release::Invalid | Release::FailedWrite => free.push_head(FREE, buffer),
+    }
+}
+
 /// Takes a buffer off its hash queue, if it is on one.
 fn leave(queues: &mut Lists, buffer: u32)
     requires in_range { buffer < queues.old.numbers }
@@ -306,3 +330,6 @@ fn make_free(alloc: Global, buffers: u32) -> Result<Lists, NoMemory>
     }
     Ok(free)
 }
+
+#[cfg(test)]
+mod tests;

@@ -3,6 +3,8 @@ use Rattle.std.proofs.lemmas.Bool.{cases_lt}
 use Rattle.sv_links.specs.Arrangement.{times}
 use Rattle.sv_cache.specs.Getblk.{IsCause}
 use Rattle.sv_cache.proofs.Holder.{unnamed-holder, named-holder, named-inside, free-cause}
+use Rattle.sv_cache.specs.declared.scenario.Scenario.TheVariants.{Hit}
+use Rattle.sv_cache.proofs.Frames.{given-if_held}
 use Rattle.sv_cache.proofs.cache.CacheCore.attempt.Goals as goal
 use Rattle.sv_cache.proofs.cache.CacheCore.attempt.Goals.{In-Some}
 
@@ -31,3 +33,15 @@ pub returns-clause-cause : goal.returns-clause-cause
 returns-clause-cause g c =
     let named = named-holder c.args.self.now c.in-Some.buffer c.args.block (sym c.find.ensures.holder ∙ c.in-Some.is) in
     (named, c.is_free.ensures.free.0 c.if-not-is_free.false)
+
+pub returns-in_default-clause-held : goal.returns-in_default-clause-held
+returns-in_default-clause-held g c =
+    let cause =
+    subst (λ r. IsCause c.args.self.now c.args.block r) (sym c.reuse.ensures.scenario)
+    (free-cause c.args.self.now c.args.block (unnamed-holder c.args.self.now c.args.block c.find.ensures.lawful.one_buffer (sym c.find.ensures.holder ∙ c.in_default.is)) c.args.self.now.free refl) in
+    given-if_held c.args.self.now c.reuse.new.self c.args.block c.reuse.result c.find.ensures.lawful cause c.reuse.ensures.after
+
+pub returns-clause-held : goal.returns-clause-held
+returns-clause-held g c =
+    let named = named-holder c.args.self.now c.in-Some.buffer c.args.block (sym c.find.ensures.holder ∙ c.in-Some.is) in
+    given-if_held c.args.self.now c.take_off.new.self c.args.block (Hit c.in-Some.buffer) c.find.ensures.lawful (named, c.is_free.ensures.free.0 c.if-not-is_free.false) c.take_off.ensures.after
