@@ -148,6 +148,7 @@ fn real_disks(rt: HostRuntime) -> Result<(), TestFail> {
     host.end_disk(disk);
     (&mut content[150_016..150_528]).copy_from_slice(&[2; 512]);
     assert!(rt; fs::read(&rt, "image")?.as_slice() == content.as_slice());
+    fs::remove_file(&rt, "image")?;
     Ok(())
 }
 
@@ -159,6 +160,7 @@ fn real_disks_past_the_limit(rt: HostRuntime) -> Result<(), TestFail> {
         .ok()
         .ok_or("disk")?;
     assert_eq!(rt; disk.length(), 67_108_865);
+    fs::remove_file(&rt, "long")?;
     Ok(())
 }
 
@@ -170,5 +172,6 @@ fn real_sinks(rt: HostRuntime) -> Result<(), TestFail> {
     assert_eq!(rt; sink.write(b"end"), Ok(()));
     text.extend_from_slice(b"end")?;
     assert!(rt; fs::read(&rt, "text")?.as_slice() == text.as_slice());
+    fs::remove_file(&rt, "text")?;
     Ok(())
 }
