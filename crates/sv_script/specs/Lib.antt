@@ -1,0 +1,5 @@
+pub mod Cut
+pub mod Grammar
+pub mod Outcome
+pub mod Verb
+pub mod Word

@@ -1,0 +1,19 @@
+//! The language of scripts: lines of system calls, and the text of their answers.
+//!
+//! - `parse` reads a script whole, or answers the first line that is at fault and why.
+//! - `Script` is its lines, each a `Line`: its number in the text, from 1, and its `Call`.
+//! - `answer_text` writes the line of an `Answer`.
+//!
+//! What a call does stands in the crates above.
+#![tactic(auto)]
+
+mod call;
+mod cut;
+mod fault;
+mod line;
+mod verb;
+mod word;
+
+pub use call::Call;
+pub use fault::ScriptFault;
+pub use std::alloc::AllocError as NoMemory;
