@@ -1,5 +1,7 @@
 pub mod Cut
 pub mod Grammar
 pub mod Outcome
+pub mod Reading
+pub mod Script
 pub mod Verb
 pub mod Word

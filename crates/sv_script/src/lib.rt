@@ -7,13 +7,17 @@
 //! What a call does stands in the crates above.
 #![tactic(auto)]
 
+mod arguments;
 mod call;
 mod cut;
 mod fault;
 mod line;
+mod script;
 mod verb;
 mod word;
 
 pub use call::Call;
 pub use fault::ScriptFault;
+pub use line::Line;
+pub use script::Script;
 pub use std::alloc::AllocError as NoMemory;

@@ -1,155 +1,92 @@
-// One line of a script as a call.
-ghost use Rattle.std.specs.Prelude.{◌≡◌, ◌≤◌, IfErr, IfOk};
-ghost use Rattle.sv_script.specs.Cut.{IsPart, IsPath, words_after};
+// One line of a script.
+ghost use Rattle.std.specs.Prelude.{◌≡◌, ◌<◌, ◌^◌, IfOk, IfSome};
+ghost use Rattle.sv_dir.specs.Path.{name_count};
+ghost use Rattle.sv_script.specs.Cut.{IsPart, IsPath, words_of};
+ghost use Rattle.sv_script.specs.Grammar.{GivesCall, IsCall, call_in};
 ghost use Rattle.sv_script.specs.Outcome.{Gives};
-ghost use Rattle.sv_script.specs.Grammar.{GivesCall, call_by, descriptor_in, path_and_bits_in, path_in};
+ghost use Rattle.sv_script.specs.Reading.{is_passed_over, read_line};
+ghost use Rattle.sv_script.specs.Script.{asked, components};
 
+use crate::arguments::call_by;
 use crate::call::Call;
-use crate::cut::{none, one, three, two};
+use crate::cut::first_word;
 use crate::fault::ScriptFault;
 use crate::verb::Verb;
-use crate::word::{NUMBER_MAX, hex_of, mode_of, number_of, octal_of, offset_of};
 use std::alloc::Global;
+use sv_dir::count_names;
 use sv_form::Bytes;
 
-/// The call that a verb makes with the words that follow it.
-pub fn call_by(alloc: Global, verb: Verb, rest: &[u8]) -> Result<Call, ScriptFault>
-    requires { IsPart rest.now }
-    ensures { GivesCall result (call_by verb (words_after rest.now)) }
+/// A call, and the number of its line in the text of its script, from 1.
+#[derive(Debug, Drop, PartialEq, Eq)]
+pub struct Line {
+    pub number: u32,
+    pub call: Call,
+}
+
+/// The call of a line, and none where the line is passed over.
+#[tactic(auto, unfolding(crate::specs::Reading::read_line))]
+pub fn read_line(alloc: Global, line: &[u8]) -> Result<Option<Call>, ScriptFault>
+    requires { IsPart line.now }
+    ensures value { Gives (λ said. said) result (read_line line.now) }
+    ensures limits { IfOk result (λ said. IfSome said IsCall) }
 {
-    match verb {
-        Verb::Open => open(alloc, rest),
-        Verb::Creat => {
-            let (path, mode) = path_and_bits(alloc, rest)?;
-            Ok(Call::Creat { path, mode })
-        }
-        Verb::Mkdir => {
-            let (path, mode) = path_and_bits(alloc, rest)?;
-            Ok(Call::Mkdir { path, mode })
-        }
-        Verb::Read => read(rest),
-        Verb::Write => write(alloc, rest),
-        Verb::Fill => fill(rest),
-        Verb::Lseek => lseek(rest),
-        Verb::Close => Ok(Call::Close {
-            fd: descriptor(rest)?,
-        }),
-        Verb::Dup => Ok(Call::Dup {
-            fd: descriptor(rest)?,
-        }),
-        Verb::Link => link(alloc, rest),
-        Verb::Unlink => Ok(Call::Unlink {
-            path: path(alloc, rest)?,
-        }),
-        Verb::Rmdir => Ok(Call::Rmdir {
-            path: path(alloc, rest)?,
-        }),
-        Verb::Chdir => Ok(Call::Chdir {
-            path: path(alloc, rest)?,
-        }),
-        Verb::Stat => Ok(Call::Stat {
-            path: path(alloc, rest)?,
-        }),
-        Verb::Fstat => Ok(Call::Fstat {
-            fd: descriptor(rest)?,
-        }),
-        Verb::Sync => {
-            none(rest)?;
-            Ok(Call::Sync)
-        }
+    if is_passed_over(line) {
+        return Ok(None);
+    }
+    let call = call_in(alloc, line)?;
+    Ok(Some(call))
+}
+
+fn call_in(alloc: Global, line: &[u8]) -> Result<Call, ScriptFault>
+    requires { IsPart line.now }
+    ensures { GivesCall result (call_in (words_of line.now)) }
+{
+    let (word, rest) = first_word(line);
+    match Verb::read(word) {
+        Some(verb) => call_by(alloc, verb, rest),
+        None => Err(ScriptFault::Word),
     }
 }
 
-fn open(alloc: Global, rest: &[u8]) -> Result<Call, ScriptFault>
-    requires { IsPart rest.now }
-    ensures { GivesCall result (call_by Verb.Open (words_after rest.now)) }
+fn is_passed_over(line: &[u8]) -> bool
+    ensures { result ≡ is_passed_over line.now }
 {
-    let (path, mode) = two(rest)?;
-    let mode = mode_of(mode)?;
-    let path = bytes_of(alloc, path)?;
-    Ok(Call::Open { path, mode })
+    line.is_empty() || line[0] == b'#'
 }
 
-fn read(rest: &[u8]) -> Result<Call, ScriptFault>
-    requires { IsPart rest.now }
-    ensures { GivesCall result (call_by Verb.Read (words_after rest.now)) }
+/// How many names the paths of a call have.
+pub fn components(call: &Call) -> u64
+    requires { IsCall call.now }
+    ensures { result ≡ components call.now }
 {
-    let (fd, count) = two(rest)?;
-    let fd = number_of(fd, NUMBER_MAX)?;
-    let count = number_of(count, NUMBER_MAX)?;
-    Ok(Call::Read { fd, count })
+    match call {
+        Call::Open { path, .. }
+        | Call::Creat { path, .. }
+        | Call::Mkdir { path, .. }
+        | Call::Unlink { path }
+        | Call::Rmdir { path }
+        | Call::Chdir { path }
+        | Call::Stat { path } => names(path),
+        Call::Link { first, second } => names(first) + names(second),
+        _ => 0,
+    }
 }
 
-fn write(alloc: Global, rest: &[u8]) -> Result<Call, ScriptFault>
-    requires { IsPart rest.now }
-    ensures { GivesCall result (call_by Verb.Write (words_after rest.now)) }
+fn names(path: &Bytes) -> u64
+    requires { IsPath path.now }
+    ensures value { result ≡ name_count path.now }
+    ensures most { result < 2 ^ 32 }
 {
-    let (fd, bytes) = two(rest)?;
-    let fd = number_of(fd, NUMBER_MAX)?;
-    let bytes = hex_of(alloc, bytes)?;
-    Ok(Call::Write { fd, bytes })
+    u64::from(count_names(path.as_slice()))
 }
 
-fn fill(rest: &[u8]) -> Result<Call, ScriptFault>
-    requires { IsPart rest.now }
-    ensures { GivesCall result (call_by Verb.Fill (words_after rest.now)) }
+/// How many bytes a call asks to read, write or fill.
+pub fn asked(call: &Call) -> u64
+    ensures { result ≡ asked call.now }
 {
-    let (fd, count, byte) = three(rest)?;
-    let fd = number_of(fd, NUMBER_MAX)?;
-    let count = number_of(count, NUMBER_MAX)?;
-    let byte = number_of(byte, 255)? as u8;
-    Ok(Call::Fill { fd, count, byte })
-}
-
-fn lseek(rest: &[u8]) -> Result<Call, ScriptFault>
-    requires { IsPart rest.now }
-    ensures { GivesCall result (call_by Verb.Lseek (words_after rest.now)) }
-{
-    let (fd, offset, whence) = three(rest)?;
-    let fd = number_of(fd, NUMBER_MAX)?;
-    let offset = offset_of(offset)?;
-    let whence = number_of(whence, 2)? as u8;
-    Ok(Call::Lseek { fd, offset, whence })
-}
-
-fn link(alloc: Global, rest: &[u8]) -> Result<Call, ScriptFault>
-    requires { IsPart rest.now }
-    ensures { GivesCall result (call_by Verb.Link (words_after rest.now)) }
-{
-    let (first, second) = two(rest)?;
-    let first = bytes_of(alloc, first)?;
-    let second = bytes_of(alloc, second)?;
-    Ok(Call::Link { first, second })
-}
-
-fn path(alloc: Global, rest: &[u8]) -> Result<Bytes, ScriptFault>
-    requires { IsPart rest.now }
-    ensures value { Gives (λ path. path) result (path_in (words_after rest.now)) }
-    ensures path { IfOk result IsPath }
-{
-    bytes_of(alloc, one(rest)?)
-}
-
-fn path_and_bits(alloc: Global, rest: &[u8]) -> Result<(Bytes, u16), ScriptFault>
-    requires { IsPart rest.now }
-    ensures value { Gives (λ ws. (ws.0, ws.1)) result (path_and_bits_in (words_after rest.now)) }
-    ensures limits { IfOk result (λ ws. IsPath ws.0 × (ws.1 ≤ 4095)) }
-{
-    let (path, bits) = two(rest)?;
-    let bits = octal_of(bits)?;
-    Ok((bytes_of(alloc, path)?, bits))
-}
-
-fn descriptor(rest: &[u8]) -> Result<u32, ScriptFault>
-    requires { IsPart rest.now }
-    ensures { Gives (λ fd. fd) result (descriptor_in (words_after rest.now)) }
-{
-    number_of(one(rest)?, NUMBER_MAX)
-}
-
-fn bytes_of(alloc: Global, word: &[u8]) -> Result<Bytes, ScriptFault>
-    ensures ok { IfOk result (λ bytes. bytes ≡ word.now) }
-    ensures err { IfErr result (λ e. e ≡ ScriptFault.NoMemory) }
-{
-    Ok(Bytes::from_vec(Vec::from_slice(alloc, word)?))
+    match call {
+        Call::Read { count, .. } | Call::Fill { count, .. } => u64::from(*count),
+        Call::Write { bytes, .. } => bytes.as_slice().len() as u64,
+        _ => 0,
+    }
 }
