@@ -1,2 +1,5 @@
 pub mod Digits
+pub mod LineSteps
+pub mod ParseSteps
+pub mod ScriptSteps
 pub mod Words

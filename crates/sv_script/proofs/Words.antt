@@ -27,7 +27,7 @@ first_part stop bytes n lt before at =
     let plain = front_plain stop bytes n (omega arith) before in
     ap (slice_split (λ b. eqb b stop)) (cut_there stop bytes n (omega arith) lt at) ∙ slice_split_at (λ b. eqb b stop) (take n bytes) stop (drop (n + 1) bytes) (λ k d l. tested stop _ (plain k d l)) (eq-eqb stop stop refl)
 
-last_part : (stop : ℕ) (bytes : List ℕ) (n : ℕ) → length bytes ≤ n → n ≤ length bytes → ((k : ℕ) → k < n → get_or bytes k 0 ≢ stop) → slice_split (λ b. eqb b stop) bytes ≡ bytes ∷ []
+pub last_part : (stop : ℕ) (bytes : List ℕ) (n : ℕ) → length bytes ≤ n → n ≤ length bytes → ((k : ℕ) → k < n → get_or bytes k 0 ≢ stop) → slice_split (λ b. eqb b stop) bytes ≡ bytes ∷ []
 last_part stop bytes n le within before =
     let plain = front_plain stop bytes n within before in
     slice_split_none (λ b. eqb b stop) bytes (λ k d l. tested stop _ (subst (λ (xs : List ℕ). All (λ b. b ≢ stop) xs) (take_all n bytes le) plain k d l))

@@ -1,6 +1,7 @@
 pub mod Cut
 pub mod Grammar
 pub mod Outcome
+pub mod Progress
 pub mod Reading
 pub mod Script
 pub mod Verb

@@ -32,11 +32,14 @@ script_from number (line ∷ lines) = line_with number (read_line line) ++ scrip
 unfoldable pub script_of : List (List ℕ) → List Line
 script_of lines = script_from 1 lines
 
--- whether so many lines with these calls are too many, or ask for too much
+-- so many lines, path components and asked bytes are too many
+abbrev pub limit_of : ℕ → ℕ → ℕ → Option ScriptFault
+limit_of number components asked =
+    if nat_lt 16384 number then Some faults.Lines else if nat_lt 65536 components then Some faults.Lines else if nat_lt 4194304 asked then Some faults.Volume
+    else None
+
 abbrev pub limit_fault : ℕ → List Line → Option ScriptFault
-limit_fault number script =
-    if nat_lt 16384 number then Some faults.Lines else if nat_lt 65536 (component_sum script) then Some faults.Lines
-    else if nat_lt 4194304 (asked_sum script) then Some faults.Volume else None
+limit_fault number script = limit_of number (component_sum script) (asked_sum script)
 
 -- the fault of a line that comes after these: first its words are tried, then the limits, with what it asks for itself
 abbrev pub fault_with : List (List ℕ) → Result (Option Call) ScriptFault → Option ScriptFault

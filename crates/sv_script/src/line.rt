@@ -57,7 +57,8 @@ fn is_passed_over(line: &[u8]) -> bool
 /// How many names the paths of a call have.
 pub fn components(call: &Call) -> u64
     requires { IsCall call.now }
-    ensures { result ≡ components call.now }
+    ensures value { result ≡ components call.now }
+    ensures most { result < 2 ^ 33 }
 {
     match call {
         Call::Open { path, .. }
@@ -82,7 +83,8 @@ fn names(path: &Bytes) -> u64
 
 /// How many bytes a call asks to read, write or fill.
 pub fn asked(call: &Call) -> u64
-    ensures { result ≡ asked call.now }
+    ensures value { result ≡ asked call.now }
+    ensures most { result < 2 ^ 63 }
 {
     match call {
         Call::Read { count, .. } | Call::Fill { count, .. } => u64::from(*count),
