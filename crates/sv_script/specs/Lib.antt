@@ -1,3 +1,4 @@
+pub mod Answer
 pub mod Cut
 pub mod Grammar
 pub mod Outcome

@@ -7,6 +7,7 @@
 //! What a call does stands in the crates above.
 #![tactic(auto)]
 
+mod answer;
 mod arguments;
 mod call;
 mod cut;
@@ -17,6 +18,7 @@ mod script;
 mod verb;
 mod word;
 
+pub use answer::{Answer, Answers, Errno, answer_text};
 pub use call::Call;
 pub use fault::ScriptFault;
 pub use line::Line;
