@@ -15,6 +15,8 @@ mod fault;
 mod line;
 mod reading;
 mod script;
+#[cfg(test)]
+mod tests;
 mod verb;
 mod word;
 
