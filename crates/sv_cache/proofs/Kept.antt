@@ -4,7 +4,7 @@ use Rattle.std.specs.Vec.{with_item}
 use Rattle.std.proofs.lemmas.Bool.{cases_eq, cond-true, cond-false, eq-eqb, ne_eqb}
 use Rattle.std.proofs.lemmas.List.{get_or-set_same, get_or-set_other, get_or_read, length-set, length-map}
 use Rattle.sv_links.specs.Arrangement.{Arrangement, list_at, times, without, one_if}
-use Rattle.sv_links.proofs.Told.{get_or-without}
+use Rattle.sv_links.proofs.Times.{get_or-without}
 use Rattle.sv_links.proofs.Times.{times-without_same, times-without_other, times-push, one-if_same, none-if_other}
 use Rattle.sv_cache.specs.declared.TheConstants.{HASH_QUEUES}
 use Rattle.sv_cache.specs.declared.scenario.Release.{Release}

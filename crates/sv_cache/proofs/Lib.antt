@@ -3,3 +3,4 @@ pub mod Kept
 pub mod Holder
 pub mod New
 pub mod Frames
+pub mod Fresh

@@ -12,7 +12,7 @@ use Rattle.sv_cache.specs.Cache.{Buffer, buffer_at, no_buffer, new_buffer, new_c
 use Rattle.sv_cache.specs.Lawful.{IsLawful, IsKept, on_queue, cache}
 
 -- a buffer of a new cache names no block
-new-block : {D : Type 0} (d : D) (n : ℕ) (g : Geometry) (k : ℕ) → (buffer_at (new_cache d n g) k).block ≡ None
+pub new-block : {D : Type 0} (d : D) (n : ℕ) (g : Geometry) (k : ℕ) → (buffer_at (new_cache d n g) k).block ≡ None
 new-block d n g k =
     elim (cases_lt k n) [
       | inl h ↦ ap (λ (x : Buffer). x.block) (get_or-replicate n k (new_buffer g.block_size) no_buffer h)

@@ -3,3 +3,4 @@ pub mod Getblk
 pub mod Brelse
 pub mod Lawful
 pub mod Held
+pub mod Fresh

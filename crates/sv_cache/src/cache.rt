@@ -5,6 +5,7 @@ ghost use Rattle.sv_form.specs.Geometry.{IsGeometry};
 ghost use Rattle.sv_links.specs.Arrangement.{list_at, without, IsArranged, IsOnNone};
 ghost use Rattle.sv_cache.specs.Cache.{Cache, buffer_at, is_delayed, new_buffer, holder, IsFree, IsBusy, IsBufferCount, new_cache};
 ghost use Rattle.sv_cache.specs.Getblk.{scenario_of, after_search, IsCause, IsUnnamed, reuses, renamed};
+ghost use Rattle.sv_cache.specs.Fresh.{IsFreshFirst, HasUnused, TakesUnused, IsToTail};
 ghost use Rattle.sv_cache.specs.Held.{IsHeld, given};
 ghost use Rattle.sv_cache.specs.Brelse.{after_lend, after_release, freed};
 
@@ -55,6 +56,7 @@ impl<D: Disk> CacheCore<D> {
         requires length { length (D.content disk) ≡ geometry.blocks * geometry.block_size }
         requires buffers { IsBufferCount buffers }
         ensures empty { IfOk result (λ c. c ≡ new_cache disk buffers geometry) }
+        ensures fresh { IfOk result IsFreshFirst }
         ensures handed_back { IfErr result (λ e. e.0 ≡ disk) }
         ensures lawful { IfOk result IsLawful }
     {
@@ -81,6 +83,8 @@ impl<D> CacheCore<D> {
         ensures after { self.new ≡ after_search self.old block result }
         ensures cause { IsCause self.old block result }
         ensures held { IfSome (given result) (IsHeld self.new) }
+        ensures fresh { IsFreshFirst self.old → IsFreshFirst self.new }
+        ensures unused { IsFreshFirst self.old → HasUnused self.old → IsUnnamed self.old block → TakesUnused self.old result }
         ensures lawful { IsLawful self.new }
     {
         let Some(buffer) = self.find(block) else {
@@ -99,6 +103,7 @@ impl<D> CacheCore<D> {
         ensures lent { (buffer_at self.old buffer).bytes ≡ Some result.items }
         ensures size { vec_len result ≡ self.old.geometry.block_size }
         ensures after { self.new ≡ after_lend self.old buffer }
+        ensures fresh { IsFreshFirst self.old → IsFreshFirst self.new }
         ensures lawful { IsLawful self.new }
     {
         self.headers[buffer as usize].lend()
@@ -110,6 +115,7 @@ impl<D> CacheCore<D> {
         requires out { (buffer_at self.old buffer).bytes ≡ None }
         requires size { vec_len bytes ≡ self.old.geometry.block_size }
         ensures after { self.new ≡ after_release self.old buffer bytes.items how }
+        ensures fresh { IsToTail how → IsFreshFirst self.old → IsFreshFirst self.new }
         ensures lawful { IsLawful self.new }
     {
         self.headers[buffer as usize].give_back(bytes, how);
@@ -180,6 +186,7 @@ impl<D> CacheCore<D> {
     pub fn take_device(&mut self) -> Option<D>
         ensures device { result ≡ self.old.device }
         ensures after { self.new ≡ record self.old { device = None } }
+        ensures fresh { IsFreshFirst self.old → IsFreshFirst self.new }
         ensures lawful { IsLawful self.new }
     {
         self.device.take()
@@ -189,6 +196,7 @@ impl<D> CacheCore<D> {
     pub fn put_device(&mut self, disk: D)
         requires out { self.old.device ≡ None }
         ensures after { self.new ≡ record self.old { device = Some disk } }
+        ensures fresh { IsFreshFirst self.old → IsFreshFirst self.new }
         ensures lawful { IsLawful self.new }
     {
         match self.device.replace(disk) {

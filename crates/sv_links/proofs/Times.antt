@@ -1,9 +1,10 @@
 -- How often a number stands on a list, and what stands after it.
-use Rattle.std.proofs.Common.{◌≡◌, ◌≢◌, ℕ, zero, suc, ◌+◌, ◌<◌, ◌≤◌, ◌==◌, List, [], ◌∷◌, ◌++◌, not, length, refl, sym, ap, ◌∙◌, arith, inl, inr, subst, Option, Some, None, ltb, get_or}
+use Rattle.std.proofs.Common.{◌≡◌, ◌≢◌, ℕ, zero, suc, ◌+◌, ◌<◌, ◌≤◌, ◌==◌, List, [], ◌∷◌, ◌++◌, not, length, refl, sym, ap, ◌∙◌, arith, inl, inr, subst, Option, Some, None, ltb, get_or, map}
 use Rattle.std.specs.Borrow.{Bor}
 use Rattle.std.specs.Slice.{IsItemAt}
 use Rattle.std.specs.Option.{option_copied}
 use Rattle.std.specs.List.{slice_get, position_or_len, position}
+use Rattle.std.proofs.lemmas.List.{length-map, ext_get_or}
 use Rattle.std.proofs.lemmas.Bool.{cases_eq, cases_lt, lt-ltb, le-ltb, cond-true, cond-false, eq-eqb, ne_eqb, cases_Bool}
 use Rattle.sv_links.specs.Arrangement.{times, without, after, one_if}
 
@@ -24,10 +25,10 @@ one-if_same x y e = ap one_if (eq-eqb x y e)
 pub none-if_other : (x y : ℕ) → x ≢ y → one_if (x == y) ≡ 0
 none-if_other x y n = ap one_if (ne_eqb x y n)
 
-without-cons_same : (x y : ℕ) (ys : List ℕ) → y ≡ x → without x (y ∷ ys) ≡ without x ys
+pub without-cons_same : (x y : ℕ) (ys : List ℕ) → y ≡ x → without x (y ∷ ys) ≡ without x ys
 without-cons_same x y ys e = cond-false (not (y == x)) (y ∷ without x ys) (without x ys) (ap not (eq-eqb y x e))
 
-without-cons_other : (x y : ℕ) (ys : List ℕ) → y ≢ x → without x (y ∷ ys) ≡ y ∷ without x ys
+pub without-cons_other : (x y : ℕ) (ys : List ℕ) → y ≢ x → without x (y ∷ ys) ≡ y ∷ without x ys
 without-cons_other x y ys n = cond-true (not (y == x)) (y ∷ without x ys) (without x ys) (ap not (ne_eqb y x n))
 
 pub times-without_same : (x : ℕ) (xs : List ℕ) → times x (without x xs) ≡ 0
@@ -137,3 +138,16 @@ slice_get-at (x ∷ xs) (suc k) d h = slice_get-at xs k d (omega arith)
 pub item-copied : (xs : List ℕ) (k : ℕ) (r : Option (Bor ℕ)) → IsItemAt xs k r → option_copied r ≡ slice_get xs k
 item-copied xs k None h = sym (slice_get-past xs k h.3)
 item-copied xs k (Some x) h = ap Some h.1 ∙ sym (slice_get-at xs k x.now h.3.0)
+
+-- each of many lists without x
+pub get_or-without : (x : ℕ) (lists : List (List ℕ)) (k : ℕ) → get_or (map (without x) lists) k [] ≡ without x (get_or lists k [])
+get_or-without x [] k = refl
+get_or-without x (xs ∷ lists) zero = refl
+get_or-without x (xs ∷ lists) (suc k) = get_or-without x lists k
+
+
+-- taking off a number that is on no list changes nothing
+pub map-without_absent : (x : ℕ) (lists : List (List ℕ)) → ((k : ℕ) → times x (get_or lists k []) ≡ 0) → map (without x) lists ≡ lists
+map-without_absent x lists absent =
+    ext_get_or [] (map (without x) lists) lists (length-map lists (without x))
+    (λ k h. get_or-without x lists k ∙ without_absent x (get_or lists k []) (absent k))

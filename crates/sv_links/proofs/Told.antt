@@ -4,7 +4,7 @@ use Rattle.std.proofs.lemmas.Bool.{cases_eq, cases_lt}
 use Rattle.std.proofs.lemmas.List.{get_or-set_same, get_or-set_other, get_or_past, length-map, ext_get_or, length-set}
 use Rattle.sv_links.specs.Arrangement.{IsArranged, times, without, one_if}
 use Rattle.sv_links.specs.Keeping.{stands}
-use Rattle.sv_links.proofs.Times.{one-if_same, none-if_other, times-without_same, times-without_other, without_absent}
+use Rattle.sv_links.proofs.Times.{one-if_same, none-if_other, times-without_same, times-without_other, without_absent, get_or-without, map-without_absent}
 
 -- each number stands on the list that the table tells, once, and on no other
 pub record IsTold (lists : List (List ℕ)) (places : List (Option ℕ)) : Type 0 where
@@ -51,11 +51,6 @@ IsTold-pushed lists places l x ys t inside listed absent more = record {
   ];
 }
 
-pub get_or-without : (x : ℕ) (lists : List (List ℕ)) (k : ℕ) → get_or (map (without x) lists) k [] ≡ without x (get_or lists k [])
-get_or-without x [] k = refl
-get_or-without x (xs ∷ lists) zero = refl
-get_or-without x (xs ∷ lists) (suc k) = get_or-without x lists k
-
 -- x is taken off
 pub IsTold-without : (lists : List (List ℕ)) (places : List (Option ℕ)) (x : ℕ) → IsTold lists places → x < length places → IsTold (map (without x) lists) (set places x None)
 IsTold-without lists places x t listed = record {
@@ -76,9 +71,3 @@ set-without lists places l x t p inside =
           let absent : times x (get_or lists k []) ≡ 0 = t.told k x ∙ ap (λ q. stands q k) p ∙ none-if_other l k (λ q. d (sym q)) in
           rw (get_or-set_other lists l k (without x (get_or lists l [])) [] d, get_or-without x lists k) (sym (without_absent x (get_or lists k []) absent))
     ])
-
--- taking off a number that is on no list changes nothing
-pub map-without_absent : (x : ℕ) (lists : List (List ℕ)) → ((k : ℕ) → times x (get_or lists k []) ≡ 0) → map (without x) lists ≡ lists
-map-without_absent x lists absent =
-    ext_get_or [] (map (without x) lists) lists (length-map lists (without x))
-    (λ k h. get_or-without x lists k ∙ without_absent x (get_or lists k []) (absent k))

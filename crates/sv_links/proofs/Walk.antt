@@ -145,3 +145,11 @@ range-push_suc a (suc n) = ap (λ (ys : List ℕ). a ∷ ys) (range-push_suc (a 
 
 pub range-push : (a n : ℕ) → range_with_len a (n + 1) ≡ range_with_len a n ++ (a + n) ∷ []
 range-push a n = rw add-one (range-push_suc a n)
+
+pub times-range_in : (k a n : ℕ) → a ≤ k → k < a + n → times k (range_with_len a n) ≡ 1
+times-range_in k a zero low high = absurd (omega arith)
+times-range_in k a (suc n) low high =
+    elim (cases_eq a k) [
+      inl e ↦ omega (arith, one-if_same a k e, times-range_below k (a + 1) n (omega arith))
+    | inr m ↦ omega (arith, none-if_other a k m, times-range_in k (a + 1) n (omega arith) (omega arith))
+    ]

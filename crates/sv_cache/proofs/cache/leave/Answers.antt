@@ -1,7 +1,7 @@
 use Rattle.std.proofs.Common.{◌≡◌, ℕ, List, ap, sym, Option, Some, None, MatchOption, false, ◌∙◌}
 use Rattle.std.specs.Option.{is_some}
 use Rattle.sv_links.specs.Arrangement.{Arrangement, IsOn, IsOnNone}
-use Rattle.sv_links.proofs.Told.{map-without_absent}
+use Rattle.sv_links.proofs.Times.{map-without_absent}
 use Rattle.sv_cache.proofs.cache.leave.Goals as goal
 
 on_none : (a : Arrangement) (x : ℕ) (r : Option ℕ) → MatchOption r (IsOnNone a x) (λ l. IsOn a l x) → is_some r ≡ false → IsOnNone a x

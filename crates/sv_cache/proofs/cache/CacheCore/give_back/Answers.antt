@@ -5,6 +5,8 @@ use Rattle.sv_cache.specs.Cache.{Cache, IsBusy}
 use Rattle.sv_cache.specs.Lawful.{cache}
 use Rattle.sv_cache.proofs.Kept.{Freed, freed-kept, freed-view, header-buffer}
 use Rattle.sv_cache.proofs.cache.CacheCore.give_back.Given.{Over}
+use Rattle.sv_cache.specs.Fresh.{IsFreshFirst}
+use Rattle.sv_cache.proofs.Fresh.{fresh-release}
 use Rattle.sv_cache.proofs.cache.CacheCore.give_back.Goals as goal
 use Rattle.sv_cache.proofs.cache.CacheCore.give_back.Goals.{After-put_on}
 
@@ -26,7 +28,9 @@ invariant_of-self g c = freed-kept c.self.inside c.args.buffer c.args.bytes.item
 pub returns : goal.returns
 returns g c =
     let kept = freed-kept c.self.inside c.args.buffer c.args.bytes.items c.args.how _ _ _ c.self.invariant (freeing g c) in
+    let view = freed-view c.self.inside c.args.buffer c.args.bytes.items c.args.how _ _ _ c.self.invariant (freeing g c) ∙ ap (λ v. after_release v c.args.buffer c.args.bytes.items c.args.how) c.self.view_is in
     record {
-      after = freed-view c.self.inside c.args.buffer c.args.bytes.items c.args.how _ _ _ c.self.invariant (freeing g c) ∙ ap (λ v. after_release v c.args.buffer c.args.bytes.items c.args.how) c.self.view_is;
+      after = view;
+      fresh = λ tail first. subst (λ v. IsFreshFirst v) (sym view) (fresh-release c.args.self.now c.args.buffer c.args.bytes.items c.args.how first c.requires.busy tail);
       lawful = kept.lawful;
     }

@@ -1,5 +1,7 @@
-use Rattle.std.proofs.Common.{refl, Some}
-use Rattle.sv_cache.proofs.New.{kept-new}
+use Rattle.std.proofs.Common.{refl, Some, sym, subst}
+use Rattle.sv_cache.proofs.New.{kept-new, view-new}
+use Rattle.sv_cache.specs.Fresh.{IsFreshFirst}
+use Rattle.sv_cache.proofs.Fresh.{fresh-new}
 use Rattle.sv_cache.proofs.cache.CacheCore.new.Goals as goal
 
 pub invariant_of-result : goal.invariant_of-result
@@ -9,3 +11,8 @@ pub returns-in-Ok-clause-lawful : goal.returns-in-Ok-clause-lawful
 returns-in-Ok-clause-lawful g c =
     let kept = kept-new (record { headers = c.in-Ok.parts.headers; queues = c.in-Ok.parts.queues; free = c.in-Ok.parts.free; geometry = c.args.geometry; device = Some c.args.disk }) c.args.disk c.args.buffers c.args.geometry c.in-Ok.ensures.headers c.in-Ok.ensures.queues c.in-Ok.ensures.free refl refl in
     kept.lawful
+
+pub returns-in-Ok-clause-fresh : goal.returns-in-Ok-clause-fresh
+returns-in-Ok-clause-fresh g c =
+    let view = view-new (record { headers = c.in-Ok.parts.headers; queues = c.in-Ok.parts.queues; free = c.in-Ok.parts.free; geometry = c.args.geometry; device = Some c.args.disk }) c.args.disk c.args.buffers c.args.geometry c.in-Ok.ensures.headers c.in-Ok.ensures.free refl refl in
+    subst (λ v. IsFreshFirst v) (sym view) (fresh-new c.args.disk c.args.buffers c.args.geometry)
