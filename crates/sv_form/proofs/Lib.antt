@@ -2,3 +2,4 @@ pub mod Images
 pub mod EntryLemmas
 pub mod Numbers
 pub mod Superblocks
+pub mod Tables

@@ -1,7 +1,7 @@
 -- The entries of a directory, as the image has them.
 use Rattle.std.specs.Prelude.{◌≡◌, ◌≢◌, ◌-◌, ◌<◌, ◌++◌, ℕ, List, [], length, drop, replicate, slice_index, unwrap_or, MatchOption}
 use Rattle.sv_form.specs.Name.{IsName}
-use Rattle.sv_form.specs.Number.{number16}
+use Rattle.sv_form.specs.Number.{number16, AreBytes}
 use Rattle.sv_form.specs.declared.entry.Entry.{Entry}
 
 -- an entry can be spelled where its name is missing exactly if its inode is 0
@@ -18,10 +18,6 @@ pub record IsEntry (bytes : List ℕ) (e : Entry) : Type 0 where
   pub inode : number16 bytes 0 ≡ e.inode
   pub name : drop 2 bytes ≡ filled (unwrap_or e.name [])
   pub spelled : HasSpelling e
-
--- each number of the list is a byte
-abbrev pub AreBytes : List ℕ → Type 0
-AreBytes bytes = (k : ℕ) → slice_index bytes k < 256
 
 -- no bytes spell two entries
 abbrev pub SpellsOneEntry : Type 0

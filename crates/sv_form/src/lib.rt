@@ -18,6 +18,7 @@ mod name;
 mod number;
 mod place;
 mod superblock;
+mod table;
 
 pub use bytes::Bytes;
 pub use entry::{ENTRY_SIZE, Entry, entries_have_one_spelling};

@@ -1,12 +1,17 @@
 // The superblock (Bach, chapter 4.5).
 ghost use Rattle.std.specs.Prelude.{◌≡◌, ℕ, List, length, IfSome, IfNone};
-ghost use Rattle.sv_form.specs.Superblock.{IsFreeCache, IsInodeCache};
+ghost use Rattle.sv_form.specs.Number.{ChangesOnly};
+ghost use Rattle.sv_form.specs.Superblock.{IsInodeCache, HasOneSpelling, HasSpelling, IsHead, SpellsOneSuper};
 
-use crate::number::{is_zero, number16, number32};
+use crate::number::{is_zero, number16, number32, write_number16, write_number32, write_zeros};
+use crate::table::{LIST_MAX, read_block_list, write_table16, write_table32};
 use arrayvec::ArrayVec;
 
 /// The first number of a superblock: the bytes 53 56 35 46, which are `SV5F`.
 pub const MAGIC: u32 = 0x4635_5653;
+
+// The most numbers in the free inode cache.
+const CACHE_MAX: usize = 100;
 
 /// The first 512 bytes that are looked at: the sizes of the image, and its two caches of what is free.
 ///
@@ -38,7 +43,7 @@ impl Super {
         if !is_zero(from, 416, 512) {
             return None;
         }
-        let free = read_free(from)?;
+        let free = read_block_list(from, 12, 16)?;
         let inodes = read_inodes(from)?;
         Some(Super {
             block_type: number16(from, 4),
@@ -48,30 +53,39 @@ impl Super {
             inodes,
         })
     }
+
+    /// Spells the superblock.
+    pub fn write(&self, into: &mut [u8])
+        requires len { length into.old ≡ 512 }
+        requires spelled { HasSpelling self.now }
+        ensures { IsSuper into.new self.now }
+    {
+        write_table32(self.free.as_slice(), into, 16, LIST_MAX);
+        write_table16(self.inodes.as_slice(), into, 216, CACHE_MAX);
+        write_zeros(into, 416, 512);
+        self.write_head(into);
+    }
+
+    // The sixteen bytes before the two caches: the magic number, the sizes and the counts.
+    fn write_head(&self, into: &mut [u8])
+        requires { length into.old ≡ 512 }
+        ensures head { IsHead into.new self.now }
+        ensures others { ChangesOnly into.old into.new 0 16 }
+    {
+        write_number32(into, 0, MAGIC);
+        write_number16(into, 4, self.block_type);
+        write_number16(into, 6, self.first_data);
+        write_number32(into, 8, self.blocks);
+        write_number16(into, 12, self.free.len() as u16);
+        write_number16(into, 14, self.inodes.len() as u16);
+    }
 }
 
-// The free block cache: 1 to 50 numbers, and 0 at each place that is not used.
-fn read_free(from: &[u8]) -> Option<ArrayVec<u32, 50>>
-    requires { length from.now ≡ 512 }
-    ensures some { IfSome result (λ free. IsFreeCache from.now free.items) }
-    ensures none { IfNone result ((list : List ℕ) → IsFreeCache from.now list → ⊥) }
-{
-    let count = usize::from(number16(from, 12));
-    if count == 0 {
-        return None;
-    }
-    if count > 50 {
-        return None;
-    }
-    if !is_zero(from, 16 + 4 * count, 216) {
-        return None;
-    }
-    let mut free = ArrayVec::new();
-    for place in 0..count {
-        free.push(number32(from, 16 + 4 * place));
-    }
-    Some(free)
-}
+/// No bytes spell two superblocks, and no superblock has two spellings.
+pub fn superblocks_have_one_spelling()
+    ensures value { SpellsOneSuper }
+    ensures bytes { HasOneSpelling }
+{}
 
 // The free inode cache: 0 to 100 numbers, and 0 at each place that is not used.
 fn read_inodes(from: &[u8]) -> Option<ArrayVec<u16, 100>>
@@ -80,7 +94,7 @@ fn read_inodes(from: &[u8]) -> Option<ArrayVec<u16, 100>>
     ensures none { IfNone result ((list : List ℕ) → IsInodeCache from.now list → ⊥) }
 {
     let count = usize::from(number16(from, 14));
-    if count > 100 {
+    if count > CACHE_MAX {
         return None;
     }
     if !is_zero(from, 216 + 2 * count, 416) {

@@ -1,7 +1,8 @@
 use Rattle.std.proofs.Common.{◌≡◌, ◌+◌, ◌*◌, ℕ, arith, sym}
 use Rattle.std.proofs.lemmas.Bool.{iff_false}
 use Rattle.sv_form.specs.Number.{number16}
-use Rattle.sv_form.proofs.Superblocks.{inodes_unused, one_more}
+use Rattle.sv_form.proofs.Superblocks.{inodes_unused}
+use Rattle.sv_form.proofs.Tables.{one_more}
 use Rattle.sv_form.proofs.superblock.read_inodes.Goals as goal
 
 pub returns-then-not-is_zero-clause-none : goal.returns-then-not-is_zero-clause-none
