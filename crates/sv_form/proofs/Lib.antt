@@ -3,3 +3,5 @@ pub mod EntryLemmas
 pub mod Numbers
 pub mod Superblocks
 pub mod Tables
+pub mod Spellings
+pub mod SuperLemmas
