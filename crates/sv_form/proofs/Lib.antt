@@ -5,3 +5,4 @@ pub mod Superblocks
 pub mod Tables
 pub mod Spellings
 pub mod SuperLemmas
+pub mod InodeLemmas

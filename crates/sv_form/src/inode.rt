@@ -1,11 +1,13 @@
 // The disk inode (Bach, chapter 4.1).
-ghost use Rattle.std.specs.Prelude.{◌≡◌, ◌+◌, ◌*◌, ℕ, length, IfSome, IfNone};
+ghost use Rattle.std.specs.Prelude.{◌≡◌, ◌≤◌, ◌+◌, ◌*◌, ℕ, length, IfSome, IfNone};
 ghost use Rattle.sv_form.specs.declared.kind.Kind.{Kind};
-ghost use Rattle.sv_form.specs.Number.{number24, number32, IsTable};
-ghost use Rattle.sv_form.specs.Inode.{kind_code};
+ghost use Rattle.sv_form.specs.Number.{number24, number32, ChangesOnly, IsTable};
+ghost use Rattle.sv_form.specs.Inode.{HasOneSpelling, IsBodyHead, SpellsOneInode, kind_code};
 
 use crate::Kind;
 use crate::number::{is_zero, number16, number24, number32};
+use crate::number::{write_number16, write_number32, write_zeros};
+use crate::table::{write_table24, write_table32};
 
 /// What stands at one inode's place on the disk.
 #[derive(Clone, Copy, Debug)]
@@ -33,7 +35,7 @@ pub struct InodeBody {
 
 impl DiskInode {
     ghost use Rattle.sv_form.specs.declared.inode.DiskInode.{DiskInode};
-    ghost use Rattle.sv_form.specs.Inode.{IsInode};
+    ghost use Rattle.sv_form.specs.Inode.{HasSpelling, IsInode};
 
     /// Reads the 64 bytes at an inode's place. A free inode is zero bytes.
     pub fn read(from: &[u8]) -> Option<DiskInode>
@@ -47,11 +49,29 @@ impl DiskInode {
         let body = InodeBody::read(from)?;
         Some(DiskInode::Used(body))
     }
+
+    /// Spells the inode.
+    pub fn write(&self, into: &mut [u8])
+        requires len { length into.old ≡ 64 }
+        requires spelled { HasSpelling self.now }
+        ensures { IsInode into.new self.now }
+    {
+        match self {
+            DiskInode::Free => write_zeros(into, 0, 64),
+            DiskInode::Used(body) => body.write(into),
+        }
+    }
 }
+
+/// No bytes spell two inodes, and no inode has two spellings.
+pub fn inodes_have_one_spelling()
+    ensures value { SpellsOneInode }
+    ensures bytes { HasOneSpelling }
+{}
 
 impl InodeBody {
     ghost use Rattle.sv_form.specs.declared.inode.InodeBody.{InodeBody};
-    ghost use Rattle.sv_form.specs.Inode.{IsBody};
+    ghost use Rattle.sv_form.specs.Inode.{IsBody, IsSpelledBody};
 
     // The 64 bytes of an inode that is not free.
     fn read(from: &[u8]) -> Option<InodeBody>
@@ -73,6 +93,44 @@ impl InodeBody {
             addresses: read_addresses(from),
             times: read_times(from),
         })
+    }
+
+    // Spells a used inode.
+    fn write(&self, into: &mut [u8])
+        requires len { length into.old ≡ 64 }
+        requires spelled { IsSpelledBody self.now }
+        ensures len { length into.new ≡ 64 }
+        ensures body { IsBody into.new self.now }
+    {
+        write_table24(&self.addresses, into, 12, 13);
+        write_zeros(into, 51, 52);
+        write_table32(&self.times, into, 52, 3);
+        self.write_head(into);
+    }
+
+    // The twelve bytes before the addresses.
+    fn write_head(&self, into: &mut [u8])
+        requires len { length into.old ≡ 64 }
+        requires spelled { IsSpelledBody self.now }
+        ensures head { IsBodyHead into.new self.now }
+        ensures others { ChangesOnly into.old into.new 0 12 }
+    {
+        write_number16(into, 0, 4096 * code_of(self.kind) + self.mode);
+        write_number16(into, 2, self.links);
+        write_number16(into, 4, self.owner);
+        write_number16(into, 6, self.group);
+        write_number32(into, 8, self.size);
+    }
+}
+
+// What stands for a kind in the upper four bits of an inode's first number.
+fn code_of(kind: Kind) -> u16
+    ensures code { result ≡ kind_code kind }
+    ensures fits { result ≤ 8 }
+{
+    match kind {
+        Kind::File => 8,
+        Kind::Dir => 4,
     }
 }
 
