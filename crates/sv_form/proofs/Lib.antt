@@ -6,3 +6,4 @@ pub mod Tables
 pub mod Spellings
 pub mod SuperLemmas
 pub mod InodeLemmas
+pub mod LinkBlocks

@@ -2,6 +2,7 @@ pub mod Entry
 pub mod Geometry
 pub mod Image
 pub mod Inode
+pub mod LinkBlock
 pub mod Name
 pub mod NameInside
 pub mod Number
