@@ -7,3 +7,4 @@ pub mod Spellings
 pub mod SuperLemmas
 pub mod InodeLemmas
 pub mod LinkBlocks
+pub mod PageLemmas

@@ -25,6 +25,10 @@ block_lines g = g.block_size / 64
 abbrev pub inode_place : Geometry → ℕ → Place
 inode_place g n = record { block = (n - 1) / block_lines g + 2; line = (n - 1) % block_lines g }
 
+-- the place of the superblock's first line, which is byte 512 of the image
+abbrev pub super_place : Geometry → Place
+super_place g = record { block = 512 / g.block_size; line = 512 % g.block_size / 64 }
+
 -- inode n is one of the inode list
 pub record IsNumber (g : Geometry) (n : ℕ) : Type 0 where
   pub least : 1 ≤ n

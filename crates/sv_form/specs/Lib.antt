@@ -2,8 +2,10 @@ pub mod Entry
 pub mod Geometry
 pub mod Image
 pub mod Inode
+pub mod Kind
 pub mod LinkBlock
 pub mod Name
 pub mod NameInside
 pub mod Number
+pub mod PagePath
 pub mod Superblock

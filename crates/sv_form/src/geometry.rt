@@ -16,7 +16,7 @@ pub struct Geometry {
 }
 
 impl Geometry {
-    ghost use Rattle.sv_form.specs.Geometry.{IsGeometry, IsNumber, inode_count, inode_place};
+    ghost use Rattle.sv_form.specs.Geometry.{IsGeometry, IsNumber, inode_count, inode_place, super_place};
 
     /// How many inodes the inode list has; they are numbered from 1.
     pub fn inode_count(&self) -> u32
@@ -24,6 +24,17 @@ impl Geometry {
         ensures { result ≡ inode_count self.now }
     {
         (self.first_data - 2) * self.block_size / 64
+    }
+
+    /// The place of the superblock's first line: byte 512 of the image.
+    pub fn super_place(&self) -> Place
+        requires { IsGeometry self.now }
+        ensures { result ≡ super_place self.now }
+    {
+        Place {
+            block: 512 / self.block_size,
+            line: (512 % self.block_size / 64) as u8,
+        }
     }
 
     /// The place of an inode: the inode list starts at block 2 (Bach, chapter 4.1).
