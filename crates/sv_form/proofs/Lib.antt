@@ -8,3 +8,4 @@ pub mod SuperLemmas
 pub mod InodeLemmas
 pub mod LinkBlocks
 pub mod PageLemmas
+pub mod OwnerLemmas

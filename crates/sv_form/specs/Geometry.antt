@@ -21,6 +21,19 @@ inode_count g = (g.first_data - 2) * g.block_size / 64
 abbrev pub block_lines : Geometry → ℕ
 block_lines g = g.block_size / 64
 
+-- how many lines an image has
+abbrev pub line_count : Geometry → ℕ
+line_count g = g.blocks * block_lines g
+
+-- the number of a line in the image, from 0, block by block
+abbrev pub line_number : Geometry → Place → ℕ
+line_number g p = p.block * block_lines g + p.line
+
+-- the place is in the image
+pub record IsPlace (g : Geometry) (p : Place) : Type 0 where
+  pub block : p.block < g.blocks
+  pub line : p.line < block_lines g
+
 -- the place of inode n, numbered from 1
 abbrev pub inode_place : Geometry → ℕ → Place
 inode_place g n = record { block = (n - 1) / block_lines g + 2; line = (n - 1) % block_lines g }

@@ -7,5 +7,7 @@ pub mod LinkBlock
 pub mod Name
 pub mod NameInside
 pub mod Number
+pub mod OwnerTable
+pub mod Owners
 pub mod PagePath
 pub mod Superblock

@@ -16,7 +16,7 @@ pub struct Geometry {
 }
 
 impl Geometry {
-    ghost use Rattle.sv_form.specs.Geometry.{IsGeometry, IsNumber, inode_count, inode_place, super_place};
+    ghost use Rattle.sv_form.specs.Geometry.{IsGeometry, IsNumber, block_lines, inode_count, inode_place, super_place};
 
     /// How many inodes the inode list has; they are numbered from 1.
     pub fn inode_count(&self) -> u32
@@ -24,6 +24,13 @@ impl Geometry {
         ensures { result ≡ inode_count self.now }
     {
         (self.first_data - 2) * self.block_size / 64
+    }
+
+    /// How many lines of 64 bytes a block has.
+    pub fn block_lines(&self) -> u32
+        ensures { result ≡ block_lines self.now }
+    {
+        self.block_size / 64
     }
 
     /// The place of the superblock's first line: byte 512 of the image.
@@ -43,7 +50,7 @@ impl Geometry {
         requires number { IsNumber self.now n }
         ensures { result ≡ inode_place self.now n }
     {
-        let lines = self.block_size / 64;
+        let lines = self.block_lines();
         let before = u32::from(n) - 1;
         Place {
             block: before / lines + 2,
