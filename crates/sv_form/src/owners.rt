@@ -2,6 +2,7 @@
 ghost use Rattle.std.specs.Prelude.{◌≡◌, ◌≢◌, ◌<◌, ◌+◌, ◌++◌, ◌∷◌, [], ◌==◌, if◌then◌else◌, ◌↔◌, length, slice_index, All, IfOk, OnOk, IsTrue};
 ghost use Rattle.std.specs.List.{flat_map};
 ghost use Rattle.sv_form.specs.Geometry.{IsGeometry, IsPlace, line_count, line_number};
+ghost use Rattle.sv_form.specs.OwnerTable.{IsOwnerTable};
 ghost use Rattle.sv_form.specs.Owners.{AreLinesOf, IsRange, owner_of, range_lines};
 
 use crate::{Geometry, Place, Super};
@@ -38,16 +39,13 @@ pub struct Mounted {
 }
 
 impl Model for Owners {
-    ghost use Rattle.std.specs.Prelude.{◌≡◌, length};
-    ghost use Rattle.sv_form.specs.OwnerTable.{OwnerTable};
+    ghost use Rattle.sv_form.specs.OwnerTable.{OwnerTable, IsOwnerTable};
 
     ghost Value = { OwnerTable };
 
-    ghost use Rattle.sv_form.specs.Geometry.{IsGeometry, line_count};
-
     ghost view = { λ o. record { geometry = o.geometry; owners = o.owner.items } };
 
-    ghost invariant = { λ o. IsGeometry o.geometry × (length o.owner.items ≡ line_count o.geometry) };
+    ghost invariant = { λ o. IsOwnerTable (record { geometry = o.geometry; owners = o.owner.items }) };
 }
 
 impl Owners {
@@ -63,7 +61,8 @@ impl Owners {
     /// The inode whose the line is, 0 for none.
     pub fn owner(&self, place: Place) -> u16
         requires { IsPlace self.now.geometry place }
-        ensures { result ≡ owner_of self.now place }
+        ensures value { result ≡ owner_of self.now place }
+        ensures table { IsOwnerTable self.now }
     {
         let lines = self.geometry.block_lines() as usize;
         self.owner[place.block as usize * lines + place.line as usize]
