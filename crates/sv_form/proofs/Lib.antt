@@ -9,3 +9,4 @@ pub mod InodeLemmas
 pub mod LinkBlocks
 pub mod PageLemmas
 pub mod OwnerLemmas
+pub mod NodeLemmas

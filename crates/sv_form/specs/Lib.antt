@@ -6,8 +6,11 @@ pub mod Kind
 pub mod LinkBlock
 pub mod Name
 pub mod NameInside
+pub mod Node
+pub mod NodeEntries
 pub mod Number
 pub mod OwnerTable
 pub mod Owners
 pub mod PagePath
+pub mod Pair
 pub mod Superblock
