@@ -10,3 +10,4 @@ pub mod LinkBlocks
 pub mod PageLemmas
 pub mod OwnerLemmas
 pub mod NodeLemmas
+pub mod NodeEntryLemmas
