@@ -36,7 +36,7 @@ fn text_of(alloc: Global, pairs: u32) -> Result<Vec<u8>, AllocError> {
     hex.extend_from_slice(b"\n")?;
     let mut path = Vec::from_slice(alloc, b"unlink ")?;
     for _ in 0..255 {
-        path.extend_from_slice(b"/abcdefg")?;
+        path.extend_from_slice(b"abcdefgh")?;
     }
     path.extend_from_slice(b"\n")?;
     let mut text = Vec::new(alloc);

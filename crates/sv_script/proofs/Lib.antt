@@ -1,5 +1,7 @@
+pub mod AnswerLaws
 pub mod Digits
 pub mod LineSteps
 pub mod ParseSteps
 pub mod ScriptSteps
+pub mod TextLaws
 pub mod Words

@@ -1,9 +1,9 @@
 -- How the lines of a text follow one another.
-use Rattle.std.proofs.Common.{◌≡◌, ◌≢◌, ◌<◌, ◌≤◌, ◌-◌, ◌+◌, ◌∷◌, ◌++◌, ◌∙◌, ℕ, List, [], length, take, drop, get_or, All, sym, ap, refl, subst, arith}
+use Rattle.std.proofs.Common.{◌≡◌, ◌≢◌, ◌<◌, ◌≤◌, ◌-◌, ◌+◌, ◌∷◌, ◌∙◌, ℕ, List, [], length, take, drop, get_or, sym, ap, refl, arith}
 use Rattle.std.proofs.lemmas.List.{length-take-le, length-drop, take_rest, get_or_default}
 use Rattle.std.proofs.lemmas.List.Splits.{length-slice_split}
 use Rattle.std.specs.List.{slice_split}
-use Rattle.sv_script.specs.Cut.{IsPart, is_newline, lines_of, with_last}
+use Rattle.sv_script.specs.Cut.{is_newline, lines_of, with_last}
 use Rattle.sv_script.specs.Progress.{BeginsWithLine}
 use Rattle.sv_script.proofs.Words.{first_part, front_plain, last_part}
 

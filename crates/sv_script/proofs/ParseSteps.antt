@@ -1,12 +1,12 @@
 -- How a text is read line by line to its end, or to its first fault.
-use Rattle.std.proofs.Common.{◌≡◌, ◌<◌, ◌≤◌, ◌-◌, ◌+◌, ◌∷◌, ◌++◌, ◌∙◌, ℕ, List, [], None, Some, length, take, drop, get_or, sym, ap, refl, subst, arith, inl, inr, ◌⊎◌}
-use Rattle.std.proofs.lemmas.List.{drop_more, length-drop, length-take-le, length_push, take-append-drop, take_all, take_more}
+use Rattle.std.proofs.Common.{◌≡◌, ◌<◌, ◌≤◌, ◌-◌, ◌+◌, ◌∷◌, ◌++◌, ◌∙◌, ℕ, List, [], None, Some, length, take, drop, get_or, sym, ap, subst, arith, inl, inr, ◌⊎◌}
+use Rattle.std.proofs.lemmas.List.{drop_more, length-drop, length_push, take-append-drop, take_all, take_more}
 use Rattle.sv_script.specs.declared.line.Line.{Line}
 use Rattle.sv_script.specs.declared.reading.Reading.{Reading}
 use Rattle.sv_script.specs.declared.fault.ScriptFault.{ScriptFault}
 use Rattle.sv_script.specs.declared.fault.ScriptFault.TheVariants as faults
 use Rattle.sv_script.specs.Cut.{lines_of}
-use Rattle.sv_script.specs.Reading.{FirstFault, IsFaulty, IsRefused, IsScriptOf, IsSound, fault_after, fault_at, script_of}
+use Rattle.sv_script.specs.Reading.{FirstFault, IsRefused, IsScriptOf, IsSound, fault_after, fault_at, script_of}
 use Rattle.sv_script.specs.Progress.{BeginsWithLine, IsAt, IsRead}
 use Rattle.sv_script.proofs.ScriptSteps.{fault_at-append}
 

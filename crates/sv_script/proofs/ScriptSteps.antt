@@ -1,7 +1,7 @@
 -- What reading one line more changes.
-use Rattle.std.proofs.Common.{◌≡◌, ◌≢◌, ◌<◌, ◌≤◌, ◌-◌, ◌+◌, ◌∷◌, ◌++◌, ◌∙◌, ℕ, List, [], Option, Some, None, Result, Ok, Err, MatchResult, length, take, drop, get_or, All, AllPairs, Bool, true, false, cond, nat_lt, sum_by, sym, ap, refl, subst, arith, inl, inr, ◌⊎◌, append-nil, append_assoc, add-zero, lit≤}
+use Rattle.std.proofs.Common.{◌≡◌, ◌<◌, ◌≤◌, ◌+◌, ◌∷◌, ◌++◌, ◌∙◌, ℕ, List, [], Option, Some, None, Result, Ok, Err, MatchResult, length, take, get_or, All, Bool, cond, nat_lt, sym, ap, refl, subst, arith, inl, inr, ◌⊎◌, append-nil, append_assoc, add-zero, lit≤}
 use Rattle.std.proofs.lemmas.Bool.{cases_lt, le-ltb}
-use Rattle.std.proofs.lemmas.List.{take-append-le, get_or_append_left, take_at, get_or_at, length_push, take_more, drop_more, drop_all, take_all, length-drop, length-take-le, take-take, get_or-take}
+use Rattle.std.proofs.lemmas.List.{take-append-le, get_or_append_left, take_at, get_or_at, length_push}
 use Rattle.std.proofs.lemmas.List.Elements.{All-push, All-weaker, All-nil}
 use Rattle.std.proofs.lemmas.List.Quantifiers.{all_pairs_push}
 use Rattle.std.proofs.lemmas.List.Sums.{sum_by_push}
@@ -11,10 +11,9 @@ use Rattle.sv_script.specs.declared.reading.Reading.{Reading}
 use Rattle.sv_script.specs.declared.fault.ScriptFault.{ScriptFault}
 use Rattle.sv_script.specs.declared.fault.ScriptFault.TheVariants as faults
 use Rattle.sv_script.specs.Grammar.{IsCall}
-use Rattle.sv_script.specs.Cut.{lines_of}
 use Rattle.sv_script.specs.Script.{IsScript, asked, asked_sum, component_sum, components}
-use Rattle.sv_script.specs.Reading.{FirstFault, IsFaulty, IsRefused, IsScriptOf, IsSound, fault_after, fault_at, fault_with, limit_fault, limit_of, line_with, read_line, script_from, script_of}
-use Rattle.sv_script.specs.Progress.{Adds, BeginsWithLine, IsAt, IsRead, IsWithin, PassesOver, ReadsBehind}
+use Rattle.sv_script.specs.Reading.{IsSound, fault_after, fault_at, fault_with, limit_fault, limit_of, line_with, read_line, script_from, script_of}
+use Rattle.sv_script.specs.Progress.{Adds, IsRead, PassesOver, ReadsBehind}
 
 script_from-push : (number : ℕ) (lines : List (List ℕ)) (line : List ℕ) → script_from number (lines ++ line ∷ []) ≡ script_from number lines ++ line_with (number + length lines) (read_line line)
 script_from-push number [] line = append-nil (line_with number (read_line line)) ∙ ap (λ (n : ℕ). line_with n (read_line line)) (sym (add-zero number))

@@ -1,12 +1,12 @@
 -- How the words of a line follow one another.
-use Rattle.std.proofs.Common.{◌≡◌, ◌≢◌, ◌<◌, ◌≤◌, ◌+◌, ◌-◌, ◌∷◌, ◌++◌, ◌∙◌, ℕ, List, [], length, take, drop, get_or, All, Bool, true, false, eqb, eq-eqb, Ok, Err, sym, ap, refl, subst, arith, inl, inr}
+use Rattle.std.proofs.Common.{◌≡◌, ◌≢◌, ◌<◌, ◌≤◌, ◌+◌, ◌-◌, ◌∷◌, ◌++◌, ◌∙◌, ℕ, List, [], length, take, drop, get_or, All, false, eqb, eq-eqb, Ok, Err, sym, ap, refl, subst, arith, inl, inr}
 use Rattle.std.proofs.lemmas.Bool.{cases_lt}
 use Rattle.std.proofs.lemmas.Bool.Decides.{eqb_tells}
 use Rattle.std.proofs.lemmas.List.{drop_more, drop_all, take_all, take-append-drop, length-take-le, length-take, take_rest, length-drop, get_or-take, get_or_default}
 use Rattle.std.proofs.lemmas.List.Elements.{All-take, All-drop}
 use Rattle.std.proofs.lemmas.List.Splits.{slice_split_at, slice_split_none, length-slice_split}
 use Rattle.std.specs.List.{slice_split}
-use Rattle.sv_script.specs.Cut.{BeginsWith, IsPart, IsPath, words_of, words_after, is_space, none}
+use Rattle.sv_script.specs.Cut.{BeginsWith, IsPart, words_of, words_after, is_space, none}
 use Rattle.sv_script.specs.declared.fault.ScriptFault.TheVariants as faults
 
 -- what stands at the first byte of that value, where bytes are cut

@@ -1,5 +1,5 @@
 -- What a line says: a call, by its first word and the words after it.
-use Rattle.std.specs.Prelude.{◌≡◌, ◌==◌, ◌≤◌, ◌≤ℤ◌, if◌then◌else◌, ℕ, ℤ, pos, neg_ℤ, List, [], ◌∷◌, Option, Some, None, Result, Ok, Err, length, map}
+use Rattle.std.specs.Prelude.{◌≡◌, ◌≤◌, ◌≤ℤ◌, ℕ, ℤ, pos, neg_ℤ, List, [], ◌∷◌, Option, Some, None, Result, Ok, Err}
 use Rattle.sv_script.specs.declared.call.Call.{Call}
 use Rattle.sv_script.specs.declared.call.Call.TheVariants as calls
 use Rattle.sv_script.specs.declared.fault.ScriptFault.{ScriptFault}
@@ -8,7 +8,7 @@ use Rattle.sv_script.specs.declared.verb.Verb.{Verb}
 use Rattle.sv_script.specs.declared.verb.Verb.TheVariants as verbs
 use Rattle.sv_script.specs.Outcome.{◌>>=◌, Fails}
 use Rattle.sv_script.specs.Verb.{verb_of}
-use Rattle.sv_script.specs.Cut.{IsPath, none, one, three, two, words_of}
+use Rattle.sv_script.specs.Cut.{IsPath, none, one, three, two}
 use Rattle.sv_script.specs.Word.{hex_of, mode_of, number_of, octal_of, offset_of}
 
 -- the one word, a path

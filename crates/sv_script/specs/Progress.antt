@@ -1,13 +1,12 @@
 -- What was read of a script so far.
 use Rattle.std.specs.Prelude.{◌≡◌, ◌<◌, ◌≤◌, ◌+◌, ℕ, List, [], ◌∷◌, ◌++◌, Some, Result, length, take, drop, All, MatchResult, ◌⊎◌}
 use Rattle.sv_script.specs.declared.call.Call.{Call}
-use Rattle.sv_script.specs.declared.line.Line.{Line}
 use Rattle.sv_script.specs.declared.reading.Reading.{Reading}
 use Rattle.sv_script.specs.declared.fault.ScriptFault.{ScriptFault}
 use Rattle.sv_script.specs.declared.fault.ScriptFault.TheVariants as faults
 use Rattle.sv_script.specs.Cut.{lines_of, IsPart}
 use Rattle.sv_script.specs.Script.{IsScript, asked, asked_sum, component_sum, components}
-use Rattle.sv_script.specs.Reading.{IsSound, fault_after, limit_of, script_of}
+use Rattle.sv_script.specs.Reading.{IsSound, fault_after, script_of}
 
 -- the counters are in their limits
 pub record IsWithin (r : Reading) : Type 0 where

@@ -1,5 +1,5 @@
 -- Which lines a text has, and which of them is the first at fault.
-use Rattle.std.specs.Prelude.{◌≡◌, ◌<◌, ◌≤◌, ◌+◌, ◌-◌, ◌==◌, nat_lt, ◌||◌, if◌then◌else◌, ℕ, Bool, List, [], ◌∷◌, ◌++◌, Option, Some, None, Result, Ok, Err, length, take, slice_index, slice_index_or, ◌⊎◌}
+use Rattle.std.specs.Prelude.{◌≡◌, ◌≢◌, ◌<◌, ◌≤◌, ◌+◌, ◌-◌, ◌==◌, nat_lt, ◌||◌, if◌then◌else◌, ℕ, Bool, List, [], ◌∷◌, ◌++◌, Option, Some, None, Result, Ok, Err, length, take, slice_index, slice_index_or, ◌⊎◌}
 use Rattle.sv_script.specs.declared.call.Call.{Call}
 use Rattle.sv_script.specs.declared.line.Line.{Line}
 use Rattle.sv_script.specs.declared.fault.ScriptFault.{ScriptFault}
@@ -84,3 +84,15 @@ pub record IsFaulty (text : List ℕ) (number : ℕ) (fault : ScriptFault) : Typ
 -- why a text is no script; want of memory is tied to nothing
 abbrev pub IsRefused : List ℕ → ℕ → ScriptFault → Type 0
 IsRefused text number fault = (fault ≡ faults.NoMemory) ⊎ (IsLarge text number fault ⊎ IsFaulty text number fault)
+
+-- a text is a script in one way
+abbrev pub IsReadOneWay : Type 0
+IsReadOneWay = (text : List ℕ) (script other : List Line) → IsScriptOf text script → IsScriptOf text other → script ≡ other
+
+-- memory aside, a text is refused at one line for one fault
+abbrev pub IsRefusedOneWay : Type 0
+IsRefusedOneWay = (text : List ℕ) (m n : ℕ) (f g : ScriptFault) → IsRefused text m f → IsRefused text n g → f ≢ faults.NoMemory → g ≢ faults.NoMemory → (m ≡ n) × (f ≡ g)
+
+-- memory aside, no script is refused
+abbrev pub IsReadOrRefused : Type 0
+IsReadOrRefused = (text : List ℕ) (script : List Line) (n : ℕ) (f : ScriptFault) → IsScriptOf text script → IsRefused text n f → f ≢ faults.NoMemory → ⊥

@@ -1,5 +1,5 @@
 -- The lines of a script, and what they ask for in all.
-use Rattle.std.specs.Prelude.{◌≡◌, ◌<◌, ◌≤◌, ◌+◌, ℕ, List, length, All, AllPairs, sum_by}
+use Rattle.std.specs.Prelude.{◌<◌, ◌≤◌, ◌+◌, ℕ, List, length, All, AllPairs, sum_by}
 use Rattle.sv_dir.specs.Path.{name_count}
 use Rattle.sv_script.specs.declared.call.Call.{Call}
 use Rattle.sv_script.specs.declared.call.Call.TheVariants as calls

@@ -1,5 +1,5 @@
 -- What a single word of a line can be.
-use Rattle.std.specs.Prelude.{◌≡◌, ◌==◌, ◌<◌, ◌≤◌, nat_lt, nat_le, not, ◌&&◌, ◌||◌, if◌then◌else◌, ℕ, ℤ, pos, neg_ℤ, Bool, List, [], ◌∷◌, length, drop, slice_index, codes, nat_eq, Result, Ok, Err}
+use Rattle.std.specs.Prelude.{◌==◌, nat_lt, nat_le, ◌&&◌, ◌||◌, if◌then◌else◌, ℕ, ℤ, pos, neg_ℤ, Bool, List, length, drop, slice_index, codes, nat_eq, Result, Ok, Err}
 use Rattle.std.specs.List.{list_all}
 use Rattle.std.specs.Cmp.Lexicographic.{pointwise}
 use Rattle.std.specs.Char.{digit_value}

@@ -1,7 +1,7 @@
 // What a call answers, and the line that says so.
 ghost use Rattle.std.specs.Prelude.{◌≡◌, ◌++◌, IfOk};
 ghost use Rattle.std.specs.String.{string_bytes};
-ghost use Rattle.sv_script.specs.Answer.{answer_text, errno_text, kind_text, read_text, result_text};
+ghost use Rattle.sv_script.specs.Answer.{HaveOwnTexts, answer_text, errno_text, kind_text, read_text, result_text};
 
 use crate::call::Call;
 use crate::verb::Verb;
@@ -115,6 +115,11 @@ pub fn answer_text(
     push_result(alloc, &mut text, answer)?;
     Ok(text.into_bytes())
 }
+
+/// No two answers of a call have one text.
+pub fn answers_have_own_texts()
+    ensures { HaveOwnTexts }
+{}
 
 fn push_result(alloc: Global, text: &mut String, answer: &Answer) -> Result<(), AllocError>
     ensures { IfOk result (λ _. string_bytes text.new ≡ string_bytes text.old ++ result_text answer.now) }

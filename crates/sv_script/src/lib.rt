@@ -20,10 +20,10 @@ mod tests;
 mod verb;
 mod word;
 
-pub use answer::{Answer, Answers, Errno, answer_text};
+pub use answer::{Answer, Answers, Errno, answer_text, answers_have_own_texts};
 pub use call::Call;
 pub use fault::ScriptFault;
 pub use line::Line;
-pub use reading::{ASKED_MAX, COMPONENTS_MAX, LINES_MAX, TEXT_MAX, parse};
+pub use reading::{ASKED_MAX, COMPONENTS_MAX, LINES_MAX, TEXT_MAX, parse, texts_have_one_reading};
 pub use script::Script;
 pub use std::alloc::AllocError as NoMemory;

@@ -3,7 +3,7 @@ ghost use Rattle.std.specs.Prelude.{◌≡◌, ◌≤◌, ◌<◌, ◌+◌, ℕ,
 ghost use Rattle.sv_script.specs.Cut.{IsPart, lines_of};
 ghost use Rattle.sv_script.specs.Grammar.{IsCall};
 ghost use Rattle.sv_script.specs.Progress.{Adds, BeginsWithLine, IsRead, IsWithin, PassesOver, ReadsBehind};
-ghost use Rattle.sv_script.specs.Reading.{IsRefused, IsScriptOf, limit_of};
+ghost use Rattle.sv_script.specs.Reading.{IsReadOneWay, IsReadOrRefused, IsRefused, IsRefusedOneWay, IsScriptOf, limit_of};
 ghost use Rattle.sv_script.specs.Script.{IsScript, asked, components};
 
 use crate::call::Call;
@@ -43,6 +43,13 @@ pub fn parse(alloc: Global, text: &[u8]) -> Result<Script, (u32, ScriptFault)>
     }
     Ok(reading.finish())
 }
+
+/// Memory aside, a text is a script in one way, or refused at one line for one fault.
+pub fn texts_have_one_reading()
+    ensures read { IsReadOneWay }
+    ensures refused { IsRefusedOneWay }
+    ensures apart { IsReadOrRefused }
+{}
 
 // The lines that were read so far, and their sums.
 #[derive(Drop)]

@@ -1,7 +1,6 @@
-use Rattle.std.proofs.Common.{◌∙◌, ◌≡◌, ◌<◌, ◌*◌, ◌+◌, ap, subst, sym, below_more, arith, take, eqb, ℕ, length}
+use Rattle.std.proofs.Common.{◌∙◌, ◌<◌, ◌+◌, subst, sym, below_more, arith, ℕ, length}
 use Rattle.std.proofs.lemmas.Bool.{eqb-false}
 use Rattle.std.specs.Char.{digit_value}
-use Rattle.std.specs.Str.Parse.{digits_value}
 use Rattle.sv_script.proofs.Digits.{too_large, value_step, value_read}
 use Rattle.sv_script.proofs.word.value_of.Goals as goal
 

@@ -1,6 +1,4 @@
-use Rattle.std.proofs.Common.{◌∙◌, arith, sym, refl, ap, subst, List, All, AllPairs}
-use Rattle.std.proofs.lemmas.List.Elements.{All-nil}
-use Rattle.sv_script.specs.declared.line.Line.{Line}
+use Rattle.std.proofs.Common.{refl}
 use Rattle.sv_script.proofs.ScriptSteps.{IsRead-nil}
 use Rattle.sv_script.proofs.reading.Reading.new.Goals as goal
 
