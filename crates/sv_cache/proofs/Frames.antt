@@ -1,8 +1,7 @@
 -- What a call leaves of the buffers that it is not about, and what a search gives.
-use Rattle.std.proofs.Common.{◌≡◌, ◌≢◌, ℕ, ◌+◌, ◌<◌, ◌≤◌, List, [], ◌∷◌, length, set, Option, Some, None, IsSome, IfSome, refl, sym, ap, ◌∙◌, arith, inl, inr, subst}
-use Rattle.std.proofs.lemmas.Bool.{cases_eq}
+use Rattle.std.proofs.Common.{◌≡◌, ◌≢◌, ℕ, List, Option, Some, None, IsSome, IfSome, refl, sym, ap, ◌∙◌, arith, subst}
 use Rattle.std.proofs.lemmas.List.{length-set}
-use Rattle.sv_links.specs.Arrangement.{times, without, one_if}
+use Rattle.sv_links.specs.Arrangement.{times, without}
 use Rattle.sv_links.proofs.Times.{one-if_same, none-if_other, times-without_same, times-without_other}
 use Rattle.sv_cache.specs.declared.scenario.Scenario.{Scenario}
 use Rattle.sv_cache.specs.declared.scenario.Scenario.TheVariants.{Hit, Taken, Delayed, Empty, Busy}
@@ -12,7 +11,7 @@ use Rattle.sv_cache.specs.Getblk.{after_search, renamed, IsCause, IsReused}
 use Rattle.sv_cache.specs.Brelse.{after_lend, after_release, released}
 use Rattle.sv_cache.specs.Held.{IsHeld, given}
 use Rattle.sv_cache.specs.Lawful.{IsLawful}
-use Rattle.sv_cache.proofs.Laws.{changed, changed-same, changed-other, times-freed}
+use Rattle.sv_cache.proofs.Laws.{changed-same, changed-other, times-freed}
 
 -- a held buffer is not the one at the head of the free list
 head-free : {D : Type 0} (c : Cache D) (b k : ℕ) → IsReused c b k → IsFree c k

@@ -1,5 +1,5 @@
 -- Buffers that name no block yet are used before any other (Bach, chapter 3.3: the free list is used from its head).
-use Rattle.std.specs.Prelude.{◌≡◌, ◌<◌, ◌≤◌, ℕ, Bool, false, List, [], ◌∷◌, Option, Some, None, length, count_by, is_some}
+use Rattle.std.specs.Prelude.{◌≡◌, ◌<◌, ◌≤◌, ℕ, false, List, [], ◌∷◌, Some, None, length, count_by, is_some}
 use Rattle.sv_links.specs.Arrangement.{times}
 use Rattle.sv_cache.specs.declared.scenario.Scenario.{Scenario}
 use Rattle.sv_cache.specs.declared.scenario.Scenario.TheVariants.{Taken}

@@ -145,7 +145,6 @@ get_or-without x [] k = refl
 get_or-without x (xs ∷ lists) zero = refl
 get_or-without x (xs ∷ lists) (suc k) = get_or-without x lists k
 
-
 -- taking off a number that is on no list changes nothing
 pub map-without_absent : (x : ℕ) (lists : List (List ℕ)) → ((k : ℕ) → times x (get_or lists k []) ≡ 0) → map (without x) lists ≡ lists
 map-without_absent x lists absent =

@@ -1,10 +1,10 @@
 -- The table that tells of each number on which list it stands.
-use Rattle.std.proofs.Common.{◌≡◌, ℕ, zero, suc, ◌+◌, ◌<◌, ◌≤◌, ◌==◌, List, [], ◌∷◌, length, get_or, set, map, refl, sym, ap, ◌∙◌, arith, inl, inr, Option, Some, None}
+use Rattle.std.proofs.Common.{◌≡◌, ℕ, ◌+◌, ◌<◌, ◌≤◌, ◌==◌, List, [], length, get_or, set, map, refl, sym, ap, ◌∙◌, arith, inl, inr, Option, Some, None}
 use Rattle.std.proofs.lemmas.Bool.{cases_eq, cases_lt}
 use Rattle.std.proofs.lemmas.List.{get_or-set_same, get_or-set_other, get_or_past, length-map, ext_get_or, length-set}
 use Rattle.sv_links.specs.Arrangement.{IsArranged, times, without, one_if}
 use Rattle.sv_links.specs.Keeping.{stands}
-use Rattle.sv_links.proofs.Times.{one-if_same, none-if_other, times-without_same, times-without_other, without_absent, get_or-without, map-without_absent}
+use Rattle.sv_links.proofs.Times.{one-if_same, none-if_other, times-without_same, times-without_other, without_absent, get_or-without}
 
 -- each number stands on the list that the table tells, once, and on no other
 pub record IsTold (lists : List (List ℕ)) (places : List (Option ℕ)) : Type 0 where

@@ -150,6 +150,6 @@ pub times-range_in : (k a n : ℕ) → a ≤ k → k < a + n → times k (range_
 times-range_in k a zero low high = absurd (omega arith)
 times-range_in k a (suc n) low high =
     elim (cases_eq a k) [
-      inl e ↦ omega (arith, one-if_same a k e, times-range_below k (a + 1) n (omega arith))
-    | inr m ↦ omega (arith, none-if_other a k m, times-range_in k (a + 1) n (omega arith) (omega arith))
+      | inl e ↦ omega (arith, one-if_same a k e, times-range_below k (a + 1) n (omega arith))
+      | inr m ↦ omega (arith, none-if_other a k m, times-range_in k (a + 1) n (omega arith) (omega arith))
     ]

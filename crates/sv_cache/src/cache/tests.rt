@@ -1,62 +1,21 @@
 // Four buffers: the scenarios and the releases one after another.
 ghost use Rattle.std.specs.Prelude.{◌≡◌, ◌≢◌, ◌<◌, ℕ, Some, None, IfOk, length};
 ghost use Rattle.sv_cache.specs.Held.{IsHeld, given};
-ghost use Rattle.sv_dev.specs.Causes.{counted};
 
 use crate::{CacheCore, NoMemory, Release, Scenario};
 use std::alloc::Global;
 use std::process::Abort;
 use std::test::Fail;
-use sv_dev::{Disk, Failed};
+use sv_dev::{Disk, MemDisk};
 use sv_form::Geometry;
 
-/// A device of zero bytes that fails each transfer.
-#[derive(Drop)]
-struct DeadDisk {
-    bytes: Vec<u8>,
-    reads: u64,
-    writes: u64,
-    faults: u64,
-}
-
-impl Disk for DeadDisk {
-    ghost content = { λ d. d.bytes.items };
-
-    ghost reads = { λ d. d.reads };
-
-    ghost writes = { λ d. d.writes };
-
-    ghost faults = { λ d. d.faults };
-
-    fn length(&self) -> u64 {
-        self.bytes.len() as u64
-    }
-
-    fn read(&mut self, _at: u64, _into: &mut [u8]) -> Result<(), Failed> {
-        self.reads = self.reads.saturating_add(1);
-        self.faults = self.faults.saturating_add(1);
-        Err(Failed)
-    }
-
-    fn write(&mut self, _at: u64, _from: &[u8]) -> Result<(), Failed> {
-        self.writes = self.writes.saturating_add(1);
-        self.faults = self.faults.saturating_add(1);
-        Err(Failed)
-    }
-}
-
-fn four_buffers(alloc: Global) -> Result<CacheCore<DeadDisk>, NoMemory> {
+fn four_buffers(alloc: Global) -> Result<CacheCore<MemDisk>, NoMemory> {
     let geometry = Geometry {
         block_size: 1024,
         blocks: 4,
         first_data: 3,
     };
-    let disk = DeadDisk {
-        bytes: vec![in alloc; 0u8; 4096]?,
-        reads: 0,
-        writes: 0,
-        faults: 0,
-    };
+    let disk = MemDisk::new(vec![in alloc; 0u8; 4096]?, Vec::new(alloc));
     match CacheCore::new(alloc, disk, 4, geometry) {
         Ok(core) => Ok(core),
         Err((_, refusal)) => Err(refusal),
@@ -64,7 +23,7 @@ fn four_buffers(alloc: Global) -> Result<CacheCore<DeadDisk>, NoMemory> {
 }
 
 /// A search that is to give a buffer.
-fn get(rt: &impl Abort, core: &mut CacheCore<DeadDisk>, block: u32, expected: Scenario) -> u32
+fn get(rt: &impl Abort, core: &mut CacheCore<MemDisk>, block: u32, expected: Scenario) -> u32
     ensures told { given expected ≡ Some result }
     ensures held { IsHeld core.new result }
     ensures keeps { (k : ℕ) → IsHeld core.old k → IsHeld core.new k }
@@ -87,14 +46,14 @@ fn buffer_given(found: Scenario) -> Option<u32>
 }
 
 /// A search that is to give none.
-fn seek(rt: &impl Abort, core: &mut CacheCore<DeadDisk>, block: u32, expected: Scenario)
+fn seek(rt: &impl Abort, core: &mut CacheCore<MemDisk>, block: u32, expected: Scenario)
     ensures keeps { (k : ℕ) → IsHeld core.old k → IsHeld core.new k }
 {
     assert_eq!(rt; core.attempt(block), expected);
 }
 
 /// A release after the bytes were lent.
-fn release(core: &mut CacheCore<DeadDisk>, buffer: u32, how: Release)
+fn release(core: &mut CacheCore<MemDisk>, buffer: u32, how: Release)
     requires { IsHeld core.old buffer }
     ensures there { buffer < length core.new.buffers }
     ensures keeps { (k : ℕ) → k ≢ buffer → IsHeld core.old k → IsHeld core.new k }

@@ -52,8 +52,8 @@ returns-clause-held g c =
 pub returns-in_default-clause-fresh : goal.returns-in_default-clause-fresh
 returns-in_default-clause-fresh g c = λ first.
     let cause =
-      subst (λ r. IsCause c.args.self.now c.args.block r) (sym c.reuse.ensures.scenario)
-        (free-cause c.args.self.now c.args.block (unnamed-holder c.args.self.now c.args.block c.find.ensures.lawful.one_buffer (sym c.find.ensures.holder ∙ c.in_default.is)) c.args.self.now.free refl) in
+    subst (λ r. IsCause c.args.self.now c.args.block r) (sym c.reuse.ensures.scenario)
+    (free-cause c.args.self.now c.args.block (unnamed-holder c.args.self.now c.args.block c.find.ensures.lawful.one_buffer (sym c.find.ensures.holder ∙ c.in_default.is)) c.args.self.now.free refl) in
     subst (λ v. IsFreshFirst v) (sym c.reuse.ensures.after) (fresh-search c.args.self.now c.args.block c.reuse.result c.find.ensures.lawful cause first)
 
 pub returns-clause-fresh : goal.returns-clause-fresh

@@ -1,8 +1,7 @@
-use Rattle.std.proofs.Common.{◌≡◌, ℕ, ap, refl, subst, sym, ◌∙◌}
+use Rattle.std.proofs.Common.{ap, refl, subst, sym, ◌∙◌}
 use Rattle.sv_links.specs.Arrangement.{list_at}
 use Rattle.sv_cache.specs.Brelse.{released, freed, after_release}
 use Rattle.sv_cache.specs.Cache.{Cache, IsBusy}
-use Rattle.sv_cache.specs.Lawful.{cache}
 use Rattle.sv_cache.proofs.Kept.{Freed, freed-kept, freed-view, header-buffer}
 use Rattle.sv_cache.proofs.cache.CacheCore.give_back.Given.{Over}
 use Rattle.sv_cache.specs.Fresh.{IsFreshFirst}

@@ -23,4 +23,4 @@ returns-clause-fresh g c = λ first.
     let busy = subst (λ v. IsBusy v c.args.buffer) (sym c.self.view_is) c.requires.busy in
     let lent = c.lend.ensures.rest ∙ ap (λ (x : Buffer). record x { bytes = None }) (header-buffer c.self.inside c.args.buffer c.index_mut.result.now busy.in_range c.index_mut.ensures.value) in
     subst (λ (x : Buffer). IsFreshFirst (changed (cache c.self.inside) c.args.buffer x)) (sym lent)
-      (fresh-lend (cache c.self.inside) c.args.buffer (subst (λ v. IsFreshFirst v) (sym c.self.view_is) first) busy.in_range)
+    (fresh-lend (cache c.self.inside) c.args.buffer (subst (λ v. IsFreshFirst v) (sym c.self.view_is) first) busy.in_range)

@@ -1,5 +1,5 @@
-use Rattle.std.proofs.Common.{◌≡◌, ℕ, Some, sym, subst, IfSome, Option, None, ◌∙◌}
-use Rattle.sv_cache.specs.Held.{IsHeld, given}
+use Rattle.std.proofs.Common.{ℕ, sym, subst, IfSome, Option, ◌∙◌}
+use Rattle.sv_cache.specs.Held.{IsHeld}
 use Rattle.sv_cache.proofs.Frames.{held-search}
 use Rattle.sv_cache.proofs.cache.tests.get.Goals as goal
 
