@@ -5,8 +5,9 @@ ghost use Rattle.sv_form.specs.Number.{number24, number32, ChangesOnly, IsTable}
 ghost use Rattle.sv_form.specs.Inode.{HasOneSpelling, IsBodyHead, SpellsOneInode, kind_code};
 
 use crate::Kind;
-use crate::number::{is_zero, number16, number24, number32};
-use crate::number::{write_number16, write_number32, write_zeros};
+use crate::number::{
+    is_zero, number16, number24, number32, write_number16, write_number32, write_zeros,
+};
 use crate::table::{write_table24, write_table32};
 
 /// What stands at one inode's place on the disk.

@@ -30,8 +30,10 @@ pub use inode::{DiskInode, InodeBody, inodes_have_one_spelling};
 pub use kind::Kind;
 pub use link_block::{LINK_BLOCK_SIZE, LinkBlock, link_blocks_have_one_spelling};
 pub use name::{NAME_MAX, Name};
-pub use number::{is_zero, number16, number24, number32};
-pub use number::{write_number16, write_number24, write_number32, write_zeros};
+pub use number::{
+    is_zero, number16, number24, number32, write_number16, write_number24, write_number32,
+    write_zeros,
+};
 pub use owners::{LineRange, Mounted, NoMemory, Owners};
 pub use page_path::{DIRECT, PagePath, pages_have_one_path};
 pub use place::Place;

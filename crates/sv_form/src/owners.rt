@@ -97,10 +97,8 @@ impl Owners {
     fn add_owned(&self, ranges: &mut Vec<LineRange>, line: usize, n: u16) -> Result<(), NoMemory>
         requires line { line < length self.now.owners }
         requires ranges { All (IsRange self.now.geometry) ranges.old.items }
-        ensures lines {
-            OnOk result (flat_map (range_lines self.now.geometry) ranges.new.items
-                ≡ flat_map (range_lines self.now.geometry) ranges.old.items ++ (if slice_index self.now.owners line == n then line ∷ [] else []))
-        }
+        ensures lines { OnOk result (flat_map (range_lines self.now.geometry) ranges.new.items
+            ≡ flat_map (range_lines self.now.geometry) ranges.old.items ++ (if slice_index self.now.owners line == n then line ∷ [] else [])) }
         ensures ranges { OnOk result (All (IsRange self.now.geometry) ranges.new.items) }
     {
         if self.owner[line] != n {
@@ -120,7 +118,8 @@ impl LineRange {
     fn is_before(&self, place: Place) -> bool
         ensures { IsTrue result ↔ ((self.now.block ≡ place.block) × (self.now.first + self.now.count ≡ place.line)) }
     {
-        self.block == place.block && u16::from(self.first) + u16::from(self.count) == u16::from(place.line)
+        self.block == place.block
+            && u16::from(self.first) + u16::from(self.count) == u16::from(place.line)
     }
 }
 
@@ -129,10 +128,8 @@ fn add_line(geometry: &Geometry, ranges: &mut Vec<LineRange>, place: Place) -> R
     requires sizes { IsGeometry geometry.now }
     requires place { IsPlace geometry.now place }
     requires ranges { All (IsRange geometry.now) ranges.old.items }
-    ensures lines {
-        OnOk result (flat_map (range_lines geometry.now) ranges.new.items
-            ≡ flat_map (range_lines geometry.now) ranges.old.items ++ line_number geometry.now place ∷ [])
-    }
+    ensures lines { OnOk result (flat_map (range_lines geometry.now) ranges.new.items
+        ≡ flat_map (range_lines geometry.now) ranges.old.items ++ line_number geometry.now place ∷ []) }
     ensures ranges { OnOk result (All (IsRange geometry.now) ranges.new.items) }
 {
     let len = ranges.len();

@@ -2,8 +2,7 @@
 ghost use Rattle.std.specs.Prelude.{◌≡◌, ◌+◌, ◌*◌, ◌^◌, ◌<◌, ◌≤◌, ℕ, List, length, slice_index, IfSome, IfNone};
 ghost use Rattle.sv_form.specs.Number.{number16, number24, number32, IsTable, IsBlockList, ChangesOnly};
 
-use crate::number::{is_zero, number16, number32};
-use crate::number::{write_number16, write_number24, write_number32};
+use crate::number::{is_zero, number16, number32, write_number16, write_number24, write_number32};
 use arrayvec::ArrayVec;
 
 /// The most numbers that a list of free blocks has.
