@@ -11,3 +11,4 @@ pub mod PageLemmas
 pub mod OwnerLemmas
 pub mod NodeLemmas
 pub mod NodeEntryLemmas
+pub mod PathBlocks
