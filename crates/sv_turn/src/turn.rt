@@ -145,7 +145,8 @@ impl<R: TurnRule> Turn<R> {
         &self.places[(ticket % self.places.len() as u64) as usize]
     }
 
-    /// Puts the state back and gives the turn to the next ticket. Only the pass that waits with it is woken.
+    /// Puts the state back and gives the turn to the next ticket. The pass that waits with it is woken; where no more
+    /// than 64 passes wait, no other is.
     pub fn leave<N: NewView<R::View>>(&self, pass: &mut Pass<R>, state: R::State)
         requires own { IsPassOf self.now pass.old }
         requires weight { R.weight (N.next (pass_view pass.old)) ≡ R.weight (pass_view pass.old) }
