@@ -1,5 +1,5 @@
 // The disk inode (Bach, chapter 4.1).
-ghost use Rattle.std.specs.Prelude.{◌≡◌, ◌≤◌, ◌+◌, ◌*◌, ℕ, length, IfSome, IfNone};
+ghost use Rattle.std.specs.Prelude.{◌≡◌, ◌<◌, ◌≤◌, ◌+◌, ◌*◌, ◌^◌, ℕ, length, slice_index, IfSome, IfNone};
 ghost use Rattle.sv_form.specs.declared.kind.Kind.{Kind};
 ghost use Rattle.sv_form.specs.Number.{number24, number32, ChangesOnly, IsTable};
 ghost use Rattle.sv_form.specs.Inode.{HasOneSpelling, IsBodyHead, SpellsOneInode, kind_code};
@@ -42,6 +42,7 @@ impl DiskInode {
     pub fn read(from: &[u8]) -> Option<DiskInode>
         requires { length from.now ≡ 64 }
         ensures some { IfSome result (λ i. IsInode from.now i) }
+        ensures spelled { IfSome result (λ i. HasSpelling i) }
         ensures none { IfNone result ((i : DiskInode) → IsInode from.now i → ⊥) }
     {
         if is_zero(from, 0, 64) {
@@ -78,6 +79,7 @@ impl InodeBody {
     fn read(from: &[u8]) -> Option<InodeBody>
         requires { length from.now ≡ 64 }
         ensures some { IfSome result (λ b. IsBody from.now b) }
+        ensures spelled { IfSome result (λ b. IsSpelledBody b) }
         ensures none { IfNone result ((b : InodeBody) → IsBody from.now b → ⊥) }
     {
         let kind = read_kind(number16(from, 0) / 4096)?;
@@ -149,7 +151,8 @@ fn read_kind(code: u16) -> Option<Kind>
 
 fn read_addresses(from: &[u8]) -> [u32; 13]
     requires { length from.now ≡ 64 }
-    ensures { IsTable (λ k. number24 from.now (12 + 3 * k)) 13 result }
+    ensures table { IsTable (λ k. number24 from.now (12 + 3 * k)) 13 result }
+    ensures fits { (k : ℕ) → slice_index result k < 2 ^ 24 }
 {
     let mut addresses = [0; 13];
     for (k, address) in addresses.iter_mut().enumerate() {

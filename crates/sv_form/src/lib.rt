@@ -38,3 +38,6 @@ pub use owners::{LineRange, Mounted, NoMemory, Owners};
 pub use page_path::{DIRECT, PagePath, pages_have_one_path};
 pub use place::Place;
 pub use superblock::{MAGIC, Super, superblocks_have_one_spelling};
+
+#[cfg(test)]
+mod tests;

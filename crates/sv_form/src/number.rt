@@ -13,7 +13,8 @@ pub fn number16(bytes: &[u8], at: usize) -> u16
 /// The number of 3 bytes at that place.
 pub fn number24(bytes: &[u8], at: usize) -> u32
     requires { at + 3 ≤ length bytes.now }
-    ensures { result ≡ number24 bytes.now at }
+    ensures value { result ≡ number24 bytes.now at }
+    ensures fits { result < 2 ^ 24 }
 {
     u32::from(number16(bytes, at)) + 65536 * u32::from(bytes[at + 2])
 }
