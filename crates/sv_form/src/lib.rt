@@ -1,12 +1,12 @@
-//! What stands on an image, and how it is spelled: the geometry of the disk, the superblock and the inodes.
+//! What stands on an image, and how it is spelled.
 //!
-//! - `Geometry` says how large the disk is and where its parts lie.
-//! - `Super` is the superblock, `DiskInode` one inode of the inode list; each has `read`, which is the inverse of
-//!   one relation between bytes and value.
-//! - `Kind` is what an inode is: a regular file or a directory.
-//! - `Place` is one line of 64 bytes, which is where an inode stands.
-//! - `Entry` is one entry of a directory, and `Name` what it is called; `Bytes` is what a call carries.
-//! - `number16`, `number24` and `number32` read the numbers of all formats, lowest byte first.
+//! - `Geometry` says how large the disk is and where its parts lie; `path_of` says how a page of a file is reached.
+//! - `Super`, `DiskInode`, `LinkBlock` and `Entry` are the formats. `read` and `write` of each are one relation between
+//!   bytes and value, and a law says that no bytes spell two values and no value has two spellings.
+//! - `Owners` says whose each line of 64 bytes is, and gives them in ranges; `Mounted` is what the check of an image leaves.
+//! - `Place` is one line, `Kind` what an inode is, `Name` what an entry is called; `Bytes` is what a call carries.
+//! - `number16`, `number24` and `number32` read the numbers of all formats, lowest byte first, and `write_number16` and
+//!   its like write them. What a node means, apart from where its bytes lie, is in specs/Node.antt.
 #![tactic(auto)]
 
 mod bytes;

@@ -16,7 +16,8 @@ const A: Geometry = Geometry {
 fn superblock() -> [u8; 512] {
     let mut bytes = [0; 512];
     bytes[..16].copy_from_slice(&[
-        0x53, 0x56, 0x35, 0x46, 0x02, 0x00, 0x04, 0x00, 0x40, 0x00, 0x00, 0x00, 0x0a, 0x00, 0x1e, 0x00,
+        0x53, 0x56, 0x35, 0x46, 0x02, 0x00, 0x04, 0x00, 0x40, 0x00, 0x00, 0x00, 0x0a, 0x00, 0x1e,
+        0x00,
     ]);
     for k in 0..10 {
         bytes[16 + 4 * k] = 14 - k as u8;
@@ -54,7 +55,10 @@ fn superblocks(rt: HostRuntime) -> Result<(), Fail> {
     assert_eq!(rt; head.block_type, 2);
     assert!(rt; head.free.as_slice() == [14, 13, 12, 11, 10, 9, 8, 7, 6, 5].as_slice());
     let cached = head.inodes.as_slice();
-    assert_eq!(rt; (cached.len(), cached.first(), cached.last()), (30, Some(&32), Some(&3)));
+    assert_eq!(rt;
+        (cached.len(), cached.first(), cached.last()),
+        (30, Some(&32), Some(&3))
+    );
     let mut spelled = [1; 512];
     head.write(&mut spelled);
     assert!(rt; spelled == bytes);
@@ -95,7 +99,10 @@ fn inodes(rt: HostRuntime) -> Result<(), Fail> {
     let DiskInode::Used(body) = inode else {
         return Err("free")?;
     };
-    assert_eq!(rt; (body.kind.letter(), body.mode, body.links, body.size), (b'd', 0o755, 2, 32));
+    assert_eq!(rt;
+        (body.kind.letter(), body.mode, body.links, body.size),
+        (b'd', 0o755, 2, 32)
+    );
     assert_eq!(rt; (body.addresses[0], body.addresses[1]), (4, 0));
     let free = DiskInode::read(&[0; 64]).ok_or("free inode")?;
     free.write(&mut spelled);
@@ -127,7 +134,10 @@ fn link_blocks(rt: HostRuntime) -> Result<(), Fail> {
     let bytes = last_list();
     let link = LinkBlock::read(&bytes).ok_or("link block")?;
     let numbers = link.numbers.as_slice();
-    assert_eq!(rt; (numbers.len(), numbers.first(), numbers.last()), (50, Some(&0), Some(&15)));
+    assert_eq!(rt;
+        (numbers.len(), numbers.first(), numbers.last()),
+        (50, Some(&0), Some(&15))
+    );
     let mut spelled = [1; 204];
     link.write(&mut spelled);
     assert!(rt; spelled == bytes);
@@ -161,11 +171,23 @@ fn refused_link_blocks(rt: HostRuntime) {
 fn entries(rt: HostRuntime) -> Result<(), Fail> {
     let bytes = *b"\x02\x00..\0\0\0\0\0\0\0\0\0\0\0\0";
     let entry = Entry::read(&bytes).ok_or("entry")?;
-    assert_eq!(rt; entry, Entry { inode: 2, name: Name::read(b"..") });
+    assert_eq!(rt;
+        entry,
+        Entry {
+            inode: 2,
+            name: Name::read(b"..")
+        }
+    );
     let mut spelled = [1; 16];
     entry.write(&mut spelled);
     assert!(rt; spelled == bytes);
-    assert_eq!(rt; Entry::read(&[0; 16]), Some(Entry { inode: 0, name: None }));
+    assert_eq!(rt;
+        Entry::read(&[0; 16]),
+        Some(Entry {
+            inode: 0,
+            name: None
+        })
+    );
     let carried = Bytes::from_vec(vec![in rt.alloc(); 7; 2]?);
     assert!(rt; carried.as_slice() == [7, 7].as_slice());
     Ok(())
@@ -207,7 +229,10 @@ fn path(page: u32) -> Option<PagePath> {
 
 #[test]
 fn paths(rt: HostRuntime) {
-    assert_eq!(rt; (A.block_numbers(), A.greatest_size()), (256, 2_147_483_647));
+    assert_eq!(rt;
+        (A.block_numbers(), A.greatest_size()),
+        (256, 2_147_483_647)
+    );
     assert_eq!(rt; path(0), Some(PagePath::Direct(0)));
     assert_eq!(rt; path(9), Some(PagePath::Direct(9)));
     assert_eq!(rt; path(10), Some(PagePath::Single(0)));
@@ -250,7 +275,12 @@ fn owned_lines(rt: HostRuntime) -> Result<(), Fail> {
     let none = owners.lines(alloc, 3)?;
     assert!(rt; none.is_empty());
     let rest = owners.rest(alloc)?;
-    let free = [range(0, 0, 16), range(1, 0, 16), range(2, 0, 1), range(2, 2, 14)];
+    let free = [
+        range(0, 0, 16),
+        range(1, 0, 16),
+        range(2, 0, 1),
+        range(2, 2, 14),
+    ];
     assert!(rt; rest.as_slice() == free.as_slice());
     Ok(())
 }
