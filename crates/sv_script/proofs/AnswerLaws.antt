@@ -10,7 +10,7 @@ use Rattle.std.proofs.lemmas.Str.Parse.{digit_at}
 use Rattle.std.proofs.lemmas.List.{append_cancel_left, get_or_append_left, get_or_at, get_or_default, get_or_past, length-append}
 use Rattle.std.proofs.lemmas.List.Sums.{AllPass-from_list_all}
 use Rattle.std.proofs.lemmas.List.Splits.{slice_split_at}
-use Rattle.sv_form.specs.Entry.{AreBytes}
+use Rattle.sv_form.specs.Number.{AreBytes}
 use Rattle.sv_form.specs.declared.kind.Kind.{Kind}
 use Rattle.sv_form.specs.declared.kind.Kind.TheVariants as kinds
 use Rattle.std.proofs.lemmas.List.Elements.{All-cons, All-nil}

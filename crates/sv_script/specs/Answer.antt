@@ -9,7 +9,7 @@ use Rattle.sv_script.specs.declared.answer.Answer.TheVariants as answers
 use Rattle.sv_script.specs.declared.answer.Errno.{Errno}
 use Rattle.sv_script.specs.declared.answer.Errno.TheVariants as errors
 use Rattle.sv_script.specs.declared.call.Call.{Call}
-use Rattle.sv_form.specs.Entry.{AreBytes}
+use Rattle.sv_form.specs.Number.{AreBytes}
 use Rattle.sv_script.specs.declared.verb.Verb.{Verb}
 use Rattle.sv_script.specs.declared.verb.Verb.TheVariants as verbs
 use Rattle.sv_script.specs.Verb.{verb_of_call, verb_text}
