@@ -1,5 +1,5 @@
 -- The bytes of a file that has direct blocks alone.
-use Rattle.std.specs.Prelude.{◌==◌, ℕ, List, ◌*◌, ◌+◌, ◌/◌, ◌%◌, map, slice_index, if◌then◌else◌}
+use Rattle.std.specs.Prelude.{◌==◌, ℕ, List, ◌/◌, ◌%◌, map, slice_index, if◌then◌else◌}
 use Rattle.std.specs.List.{range_with_len}
 use Rattle.sv_form.specs.declared.geometry.Geometry.{Geometry}
 use Rattle.sv_form.specs.Number.{number24, number32}

@@ -1,10 +1,29 @@
-//! The one-process file system: what a file is, without blocks, caches or threads.
+//! The one-process file system: what files are, without blocks, caches or threads.
 //!
-//! - `Mode` is what a file is opened for.
+//! - `Fs` is the whole state. `Fs::new` makes an empty one, `add_node` and `put_page` fill it, `node` reads it, and
+//!   `numbers` says how many blocks and inodes are free.
+//! - `Node` is a file or a directory: kind, mode, links and size, and by `page` its bytes.
+//! - `Opening` is an entry of the file table, and `Mode` what it was opened for.
 //!
-//! So far its specs have the meaning of a short file on an image, which `cat` writes.
+//! The meaning of a state, and what holds of it at every moment, are `Fs` and `IsWhole` of the specs.
 #![tactic(auto)]
 
+mod blocks;
+mod fs;
 mod mode;
+mod node;
+mod number_map;
+mod opening;
+mod pair_map;
+mod pair_set;
+#[cfg(test)]
+mod tests;
 
+pub use fs::Fs;
 pub use mode::Mode;
+pub use node::Node;
+pub use number_map::NumberMap;
+pub use opening::Opening;
+pub use pair_map::PairMap;
+pub use pair_set::PairSet;
+pub use std::alloc::AllocError as NoMemory;
