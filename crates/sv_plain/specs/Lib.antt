@@ -1,6 +1,11 @@
 pub mod Blocks
+pub mod Change
 pub mod Front
 pub mod Fs
+pub mod History
 pub mod Keeping
+pub mod Names
+pub mod Needs
+pub mod Step
 pub mod Totals
 pub mod Whole

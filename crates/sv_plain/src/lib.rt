@@ -3,27 +3,37 @@
 //! - `Fs` is the whole state. `Fs::new` makes an empty one, `add_node` and `put_page` fill it, `node` reads it, and
 //!   `numbers` says how many blocks and inodes are free.
 //! - `Node` is a file or a directory: kind, mode, links and size, and by `page` its bytes.
+//! - `Op` is what a process may ask for, `Reply` what it is answered, and `Entry` both with the process. What each op
+//!   may be answered, and what it changes, is `Step` of the specs; `IsLegal` and `after` are of whole histories.
 //! - `Opening` is an entry of the file table, and `Mode` what it was opened for.
 //!
 //! The meaning of a state, and what holds of it at every moment, are `Fs` and `IsWhole` of the specs.
 #![tactic(auto)]
 
 mod blocks;
+mod entry;
 mod fs;
 mod mode;
+mod need;
 mod node;
 mod number_map;
+mod op;
 mod opening;
 mod pair_map;
 mod pair_set;
+mod reply;
 #[cfg(test)]
 mod tests;
 
+pub use entry::Entry;
 pub use fs::Fs;
 pub use mode::Mode;
+pub use need::Need;
 pub use node::Node;
 pub use number_map::NumberMap;
+pub use op::Op;
 pub use opening::Opening;
 pub use pair_map::PairMap;
 pub use pair_set::PairSet;
+pub use reply::Reply;
 pub use std::alloc::AllocError as NoMemory;

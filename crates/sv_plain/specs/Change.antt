@@ -1,0 +1,117 @@
+-- What steps change.
+use Rattle.std.specs.Prelude.{◌+◌, ◌-◌, ◌*◌, ◌/◌, ◌%◌, ◌==◌, ◌&&◌, ◌||◌, ℕ, Bool, true, false, not, List, [], ◌∷◌, ◌++◌, map, length, max, replicate, Option, Some, None, unwrap_or, slice_index, nat_le, nat_lt, if◌then◌else◌}
+use Rattle.std.specs.List.{range_with_len}
+use Rattle.std.specs.Ordering.{nat_cmp}
+use Rattle.std.specs.FinMap as fmap
+use Rattle.sv_form.specs.Entry.{filled}
+use Rattle.sv_form.specs.Pair.{pair_cmp}
+use Rattle.sv_form.specs.declared.kind.Kind.{Kind}
+use Rattle.sv_form.specs.declared.kind.Kind.TheVariants.{File, Dir}
+use Rattle.sv_form.specs.Node.{Node, byte_of, entry_count}
+use Rattle.sv_plain.specs.declared.mode.Mode.{Mode}
+use Rattle.sv_plain.specs.declared.opening.Opening.{Opening}
+use Rattle.sv_plain.specs.Fs.{Fs, changed}
+use Rattle.sv_plain.specs.Names.{place_of, empty_place, references_of, is_lost}
+use Rattle.sv_plain.specs.Needs.{touched}
+
+-- ---- the bytes of a node
+
+-- a page once `bytes` were put at `at`
+abbrev pub page_after : ℕ → Node → ℕ → List ℕ → ℕ → List ℕ
+page_after block node at bytes page =
+    map (λ k. if nat_le at k && nat_lt k (at + length bytes) then slice_index bytes (k - at) else byte_of block node k) (range_with_len (page * block) block)
+
+abbrev pub with_pages : fmap.FinMap nat_cmp (List ℕ) → (ℕ → List ℕ) → List ℕ → fmap.FinMap nat_cmp (List ℕ)
+with_pages pages f [] = pages
+with_pages pages f (p ∷ ps) = fmap.insert (with_pages pages f ps) p (f p)
+
+-- a node once `bytes` were put at `at`: it ends no earlier than they do, and no byte changes nothing
+unfoldable pub put : ℕ → Node → ℕ → List ℕ → Node
+put block node at bytes = record node {
+  pages = with_pages node.pages (page_after block node at bytes) (touched block at (length bytes));
+  size = if length bytes == 0 then node.size else max node.size (at + length bytes);
+}
+
+-- the sixteen bytes of an entry
+abbrev pub entry_bytes : ℕ → List ℕ → List ℕ
+entry_bytes inode name = inode % 256 ∷ inode / 256 ∷ filled name
+
+-- a directory with one name more, in the first empty entry or else at the end
+abbrev pub with_entry : ℕ → ℕ → List ℕ → Node → Node
+with_entry block inode name node = put block node (16 * unwrap_or (empty_place block node) (entry_count node)) (entry_bytes inode name)
+
+-- a directory whose entry of that name is empty
+abbrev pub without_entry : ℕ → List ℕ → Node → Node
+without_entry block name node = put block node (16 * unwrap_or (place_of block node name) 0) (replicate 16 0)
+
+-- a node with other links
+abbrev pub with_links : (ℕ → ℕ) → Node → Node
+with_links f node = record node { links = f node.links }
+
+-- a node without bytes
+abbrev pub emptied : Node → Node
+emptied node = record node { size = 0; pages = fmap.empty }
+
+-- a new file, and a new directory i in directory d: `.` and `..`
+abbrev pub new_node : ℕ → ℕ → ℕ → ℕ → Kind → Node
+new_node block i d mode File = record { kind = File; mode = mode; links = 1; size = 0; pages = fmap.empty }
+new_node block i d mode Dir = record {
+  kind = Dir;
+  mode = mode;
+  links = 2;
+  size = 32;
+  pages = fmap.insert fmap.empty 0 (entry_bytes i (46 ∷ []) ++ entry_bytes d (46 ∷ 46 ∷ []) ++ replicate (block - 32) 0);
+}
+
+-- ---- counts that rise and fall
+
+-- one reference more, and one less: none is left where there was one
+abbrev pub one_more : Fs → ℕ → ℕ → fmap.FinMap pair_cmp ℕ
+one_more fs p i = fmap.insert fs.references (p, i) (references_of fs p i + 1)
+
+abbrev pub one_less : Fs → ℕ → ℕ → fmap.FinMap pair_cmp ℕ
+one_less fs p i = if nat_le (references_of fs p i) 1 then fmap.remove fs.references (p, i) else fmap.insert fs.references (p, i) (references_of fs p i - 1)
+
+-- a promise less the blocks used; a process without one has none then either
+abbrev pub spent_from : fmap.FinMap nat_cmp ℕ → ℕ → ℕ → Option ℕ → fmap.FinMap nat_cmp ℕ
+spent_from promises p blocks None = promises
+spent_from promises p blocks (Some had) = fmap.insert promises p (had - blocks)
+
+abbrev pub spent : Fs → ℕ → ℕ → fmap.FinMap nat_cmp ℕ
+spent fs p blocks = spent_from fs.promises p blocks (fmap.get fs.promises p)
+
+-- ---- files
+
+abbrev pub at_file : fmap.FinMap nat_cmp Opening → ℕ → (Opening → Opening) → Option Opening → fmap.FinMap nat_cmp Opening
+at_file files n f None = files
+at_file files n f (Some file) = fmap.insert files n (f file)
+
+-- the files with what f makes of file n
+abbrev pub changed_file : Fs → ℕ → (Opening → Opening) → fmap.FinMap nat_cmp Opening
+changed_file fs n f = at_file fs.files n f (fmap.get fs.files n)
+
+abbrev pub with_offset : ℕ → Opening → Opening
+with_offset offset file = record file { offset = offset }
+
+-- one share less: the file goes with the last
+abbrev pub unshared : Fs → ℕ → Option Opening → fmap.FinMap nat_cmp Opening
+unshared fs n None = fs.files
+unshared fs n (Some file) = if nat_le file.count 1 then fmap.remove fs.files n else fmap.insert fs.files n (record file { count = file.count - 1 })
+
+-- ---- whole states
+
+abbrev pub with_reference : Fs → ℕ → ℕ → Fs
+with_reference fs p i = record fs { references = one_more fs p i }
+
+abbrev pub without_reference : Fs → ℕ → ℕ → Fs
+without_reference fs p i = record fs { references = one_less fs p i }
+
+abbrev pub without_share : Fs → ℕ → Fs
+without_share fs n = record fs { files = unshared fs n (fmap.get fs.files n) }
+
+abbrev pub without_node : Fs → ℕ → Fs
+without_node fs i = record fs { nodes = fmap.remove fs.nodes i }
+
+-- without each node that no name leads to and that nothing refers to
+abbrev pub without_lost : Fs → Fs
+without_lost fs = record fs { nodes = fmap.retain_keys fs.nodes (λ i. not (is_lost fs i)) }
