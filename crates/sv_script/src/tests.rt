@@ -10,7 +10,7 @@ fn fault(alloc: Global, text: &[u8]) -> Option<(u32, ScriptFault)> {
 
 #[test]
 fn faulty_lines(rt: HostRuntime) {
-    let rows: [(&[u8], u32, ScriptFault); 34] = [
+    let rows: [(&[u8], u32, ScriptFault); 28] = [
         (b"frob 1", 1, ScriptFault::Word),
         (b"\n#\nfrob 1\nopen", 3, ScriptFault::Word),
         (b" sync", 1, ScriptFault::Word),
@@ -39,17 +39,61 @@ fn faulty_lines(rt: HostRuntime) {
         (b"open /a x", 1, ScriptFault::Word),
         (b"open /a ", 1, ScriptFault::Word),
         (b"read 0 4194305", 1, ScriptFault::Volume),
-        // two faults on one line
-        (b"frob x y z", 1, ScriptFault::Word),
-        (b"open /a x y", 1, ScriptFault::Count),
-        (b"read x", 1, ScriptFault::Count),
-        (b"write x abc", 1, ScriptFault::Number),
-        (b"fill x 4194305 y", 1, ScriptFault::Number),
-        (b"fill 0 4194305 y", 1, ScriptFault::Number),
     ];
     let alloc = rt.alloc();
     for (text, line, wanted) in rows {
         assert_eq!(rt; fault(alloc, text), Some((line, wanted)));
+    }
+}
+
+// Each pair of faults that one line can have: in both orders, where the grammar leaves room for both.
+#[test]
+fn two_faults_on_one_line(rt: HostRuntime) {
+    let rows: [(&[u8], ScriptFault); 19] = [
+        (b"frob x y z", ScriptFault::Word),
+        (b"frob 0 4194305", ScriptFault::Word),
+        (b"open x y /a", ScriptFault::Count),
+        (b"open /a x y", ScriptFault::Count),
+        (b"read x", ScriptFault::Count),
+        (b"read x 0 0", ScriptFault::Count),
+        (b"read 0 0 x", ScriptFault::Count),
+        (b"write abc", ScriptFault::Count),
+        (b"write 0 abc 0", ScriptFault::Count),
+        (b"write 0 00 abc", ScriptFault::Count),
+        (b"read 4194305", ScriptFault::Count),
+        (b"read 0 4194305 0", ScriptFault::Count),
+        (b"write x abc", ScriptFault::Number),
+        (b"write x AB", ScriptFault::Number),
+        (b"read x 4194305", ScriptFault::Number),
+        (b"fill x 4194305 0", ScriptFault::Number),
+        (b"fill 0 4194305 256", ScriptFault::Number),
+        (b"fill x 0 y", ScriptFault::Number),
+        (b"lseek x 0 3", ScriptFault::Number),
+    ];
+    let alloc = rt.alloc();
+    for (text, wanted) in rows {
+        assert_eq!(rt; fault(alloc, text), Some((1, wanted)));
+    }
+}
+
+// A fault on the first line and another on the second: the first line's is told, in whichever order they stand.
+#[test]
+fn two_faulty_lines(rt: HostRuntime) {
+    let rows: [(&[u8], ScriptFault); 10] = [
+        (b"frob\nopen", ScriptFault::Word),
+        (b"open\nfrob", ScriptFault::Count),
+        (b"open\nread x 0", ScriptFault::Count),
+        (b"read x 0\nopen", ScriptFault::Number),
+        (b"read x 0\nwrite 0 abc", ScriptFault::Number),
+        (b"write 0 abc\nread x 0", ScriptFault::Hex),
+        (b"write 0 abc\nopen /a x", ScriptFault::Hex),
+        (b"open /a x\nwrite 0 abc", ScriptFault::Word),
+        (b"open /a x\nread 0 4194305", ScriptFault::Word),
+        (b"read 0 4194305\nopen /a x", ScriptFault::Volume),
+    ];
+    let alloc = rt.alloc();
+    for (text, wanted) in rows {
+        assert_eq!(rt; fault(alloc, text), Some((1, wanted)));
     }
 }
 
@@ -141,6 +185,30 @@ fn limits(rt: HostRuntime) -> Result<(), Fail> {
     Ok(())
 }
 
+// A line that passes a limit and has another fault besides.
+#[test]
+fn limits_and_another_fault(rt: HostRuntime) -> Result<(), Fail> {
+    let rows: [(&[u8], &[u8], u32, &[u8], u32, ScriptFault); 11] = [
+        (b"", b"\n", 16384, b"open", 16385, ScriptFault::Count),
+        (b"", b"\n", 16384, b"read 0 x", 16385, ScriptFault::Number),
+        (b"", b"\n", 16384, b"write 0 a", 16385, ScriptFault::Hex),
+        (b"", b"\n", 16384, b"open a x", 16385, ScriptFault::Word),
+        (b"open ", b"/a", 65537, b" r", 1, ScriptFault::Lines),
+        (b"open ", b"/a", 65537, b" x", 1, ScriptFault::Word),
+        (b"open ", b"/a", 65537, b"", 1, ScriptFault::Count),
+        (b"creat ", b"/a", 65537, b" 8", 1, ScriptFault::Number),
+        (b"write 0 ", b"ff", 4194305, b"f", 1, ScriptFault::Hex),
+        (b"write 0 g0", b"ff", 4194305, b"", 1, ScriptFault::Hex),
+        (b"write x ", b"ff", 4194305, b"", 1, ScriptFault::Number),
+    ];
+    let alloc = rt.alloc();
+    for (first, bytes, times, last, line, wanted) in rows {
+        let text = repeated(alloc, first, bytes, times, last)?;
+        assert_eq!(rt; fault(alloc, text.as_slice()), Some((line, wanted)));
+    }
+    Ok(())
+}
+
 fn bytes(alloc: Global, from: &[u8]) -> Result<Bytes, AllocError> {
     Ok(Bytes::from_vec(Vec::from_slice(alloc, from)?))
 }
@@ -212,6 +280,21 @@ fn calls(rt: HostRuntime) -> Result<(), Fail> {
     };
     assert!(rt; reads_as(alloc, b"unlink ", 1, &unlink));
     assert!(rt; reads_as(alloc, b"sync", 1, &Call::Sync));
+    assert!(rt; reads_as(alloc, b"close 7", 1, &Call::Close { fd: 7 }));
+    assert!(rt; reads_as(alloc, b"dup 7", 1, &Call::Dup { fd: 7 }));
+    assert!(rt; reads_as(alloc, b"fstat 7", 1, &Call::Fstat { fd: 7 }));
+    let rmdir = Call::Rmdir {
+        path: bytes(alloc, b"/")?,
+    };
+    assert!(rt; reads_as(alloc, b"rmdir /", 1, &rmdir));
+    let chdir = Call::Chdir {
+        path: bytes(alloc, b"//..")?,
+    };
+    assert!(rt; reads_as(alloc, b"chdir //..", 1, &chdir));
+    let stat = Call::Stat {
+        path: bytes(alloc, b"abcdefghijklmno")?,
+    };
+    assert!(rt; reads_as(alloc, b"stat abcdefghijklmno", 1, &stat));
     Ok(())
 }
 
@@ -275,6 +358,30 @@ fn answers(rt: HostRuntime) -> Result<(), Fail> {
         )
     );
     Ok(())
+}
+
+#[test]
+fn errno_names(rt: HostRuntime) {
+    let rows: [(Errno, &[u8]); 14] = [
+        (Errno::EIO, b"9 sync = EIO"),
+        (Errno::ENOSPC, b"9 sync = ENOSPC"),
+        (Errno::ENOENT, b"9 sync = ENOENT"),
+        (Errno::EEXIST, b"9 sync = EEXIST"),
+        (Errno::ENOTDIR, b"9 sync = ENOTDIR"),
+        (Errno::EISDIR, b"9 sync = EISDIR"),
+        (Errno::ENFILE, b"9 sync = ENFILE"),
+        (Errno::EMFILE, b"9 sync = EMFILE"),
+        (Errno::EBADF, b"9 sync = EBADF"),
+        (Errno::EINVAL, b"9 sync = EINVAL"),
+        (Errno::EMLINK, b"9 sync = EMLINK"),
+        (Errno::EFBIG, b"9 sync = EFBIG"),
+        (Errno::ENOTEMPTY, b"9 sync = ENOTEMPTY"),
+        (Errno::ENOMEM, b"9 sync = ENOMEM"),
+    ];
+    let alloc = rt.alloc();
+    for (errno, text) in rows {
+        assert!(rt; writes_as(alloc, text, 9, &Call::Sync, &Answer::Error(errno)));
+    }
 }
 
 #[test]
