@@ -1,8 +1,8 @@
 -- Counts over a range of numbers, and over the keys of a map.
-use Rattle.std.proofs.Common.{◌≡◌, ◌≢◌, ◌≤◌, ◌<◌, ℕ, zero, suc, ◌+◌, Bool, true, false, cond, not, ◌&&◌, T, List, [], ◌∷◌, length, Option, Some, None, is_some, refl, ap, ◌∙◌, arith, inl, inr}
+use Rattle.std.proofs.Common.{◌≡◌, ◌≢◌, ◌≤◌, ◌<◌, ℕ, zero, suc, ◌+◌, ◌==◌, Bool, true, false, cond, not, ◌&&◌, T, List, [], ◌∷◌, length, Option, Some, None, is_some, refl, ap, ◌∙◌, arith, eqb, inl, inr}
 use Rattle.std.specs.List.{count_by, range_with_len}
 use Rattle.std.proofs.lemmas.List.Sums.{sum_by-cons}
-use Rattle.std.proofs.lemmas.Bool.{cases_eq}
+use Rattle.std.proofs.lemmas.Bool.{cases_eq, eq-eqb, eqb-true}
 use Rattle.std.specs.declared.cmp.Ordering.{Ordering}
 use Rattle.std.specs.declared.cmp.Ordering.TheVariants.{Less, Equal, Greater}
 use Rattle.std.specs.Ordering.{nat_cmp, eq_by_cmp, is_eq, is_lt}
@@ -116,3 +116,23 @@ module _ {X : Type 0} where
       let found : (i : ℕ) → map.contains_key m i ≡ is_some (find nat_cmp i (map.entries m)) = λ i. ap is_some (map.get-entries m i) in
       (λ i. count_by (λ k. not (found k i)) (range_with_len a n) + map.len-entries m i)
       ∙ missing a n (map.entries m) (map.entries_sorted m) (λ i some. within i (found i ∙ some))
+
+never : (b : Bool) → (b && false) ≡ false
+never true = refl
+never false = refl
+
+always : (b : Bool) → b ≡ (b && true)
+always true = refl
+always false = refl
+
+keeps : (b : Bool) (i x : ℕ) → i ≢ x → b ≡ (b && not (i == x))
+keeps b i x ne =
+    elim (eqb i x) as (λ e. eqb i x ≡ e → b ≡ (b && not e)) [ true ↦ λ e. absurd (ne (eqb-true i x e)) | false ↦ λ _. always b ] refl
+
+-- a test that holds somewhere on a range
+pub count_some : (p : ℕ → Bool) (x a n : ℕ) → a ≤ x → x < a + n → p x ≡ true → 1 ≤ count_by p (range_with_len a n)
+count_some p x a n low high holds =
+    let q : ℕ → Bool = λ i. p i && not (i == x) in
+    let here : one_if (p x) ≡ 1 = ap one_if holds in
+    let gone : one_if (q x) ≡ 0 = ap (λ b. one_if (p x && not b)) (eq-eqb x x refl) ∙ ap one_if (never (p x)) in
+    omega (arith, count_changed p q x a n low high (λ i ne. keeps (p i) i x ne), here, gone)

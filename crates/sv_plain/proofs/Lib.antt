@@ -1,6 +1,12 @@
 pub mod Beginnings
 pub mod Counts
+pub mod Got
+pub mod Holders
 pub mod Kept
+pub mod KeepsPromises
+pub mod KeepsReferences
+pub mod KeepsRemoval
+pub mod KeepsWhole
 pub mod Shown
 pub mod Totals
 pub mod Undone

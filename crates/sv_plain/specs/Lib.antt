@@ -4,6 +4,7 @@ pub mod Front
 pub mod Fs
 pub mod History
 pub mod Keeping
+pub mod Laws
 pub mod Names
 pub mod Needs
 pub mod Step

@@ -13,6 +13,7 @@
 mod blocks;
 mod entry;
 mod fs;
+mod laws;
 mod mode;
 mod need;
 mod node;
@@ -27,6 +28,7 @@ mod tests;
 
 pub use entry::Entry;
 pub use fs::Fs;
+pub use laws::steps_keep_whole;
 pub use mode::Mode;
 pub use need::Need;
 pub use node::Node;

@@ -1,0 +1,22 @@
+use Rattle.std.proofs.Common.{sym, subst}
+use Rattle.sv_plain.specs.Whole.{IsWhole}
+use Rattle.sv_plain.proofs.KeepsWhole.{keeps-look, keeps-drop, keeps-promised, keeps-forgone}
+use Rattle.sv_plain.proofs.laws.steps_keep_whole.Goals as goal
+
+pub returns-clause-look : goal.returns-clause-look
+returns-clause-look c = λ dir name fs after p reply w s. subst IsWhole (sym s.changed) (keeps-look fs p dir name reply w s.right)
+
+pub returns-clause-dropped : goal.returns-clause-dropped
+returns-clause-dropped c = λ ino fs after p reply w s. subst IsWhole (sym s.changed) (keeps-drop fs p ino reply w s.allowed s.right)
+
+pub returns-clause-stat : goal.returns-clause-stat
+returns-clause-stat c = λ ino fs after p reply w s. subst IsWhole (sym s.changed) w
+
+pub returns-clause-promise : goal.returns-clause-promise
+returns-clause-promise c = λ n fs after p reply w s. subst IsWhole (sym s.changed) (keeps-promised fs p n reply w s.right)
+
+pub returns-clause-forgo : goal.returns-clause-forgo
+returns-clause-forgo c = λ fs after p reply w s. subst IsWhole (sym s.changed) (keeps-forgone fs p reply w)
+
+pub returns-clause-sync : goal.returns-clause-sync
+returns-clause-sync c = λ fs after p reply w s. subst IsWhole (sym s.changed) w

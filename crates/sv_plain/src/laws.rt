@@ -1,0 +1,17 @@
+// What holds of the steps themselves, without code.
+ghost use Rattle.std.specs.Prelude.{ℕ, List};
+ghost use Rattle.sv_form.specs.declared.kind.Kind.{Kind};
+ghost use Rattle.sv_plain.specs.declared.need.Need.{Need};
+ghost use Rattle.sv_plain.specs.declared.op.Op.TheVariants as op;
+ghost use Rattle.sv_plain.specs.Laws.{KeepsWhole};
+
+/// A step of these ops leaves a whole file system whole, whichever reply it has.
+pub fn steps_keep_whole()
+    ensures look { (dir : ℕ) (name : List ℕ) → KeepsWhole (op.Look dir name) }
+    ensures dropped { (ino : ℕ) → KeepsWhole (op.Drop ino) }
+    ensures stat { (ino : ℕ) → KeepsWhole (op.Stat ino) }
+    ensures promise { (need : Need) → KeepsWhole (op.Promise need) }
+    ensures forgo { KeepsWhole op.Forgo }
+    ensures sync { KeepsWhole op.Sync }
+{
+}
