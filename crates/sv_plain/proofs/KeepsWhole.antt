@@ -1,26 +1,29 @@
 -- Each step leaves a whole file system whole, op by op.
-use Rattle.std.proofs.Common.{◌≡◌, ◌≢◌, ◌≤◌, ◌<◌, ℕ, ◌==◌, Bool, true, false, not, ◌&&◌, List, Option, Some, None, IsSome, option_map, option_and_then, is_some, length, get_or, nat_le, nat_lt, sym, refl, ap, subst, ◌∙◌, arith}
+use Rattle.std.proofs.Common.{◌≡◌, ◌≢◌, ◌≤◌, ◌<◌, ℕ, ◌==◌, Bool, true, false, not, ◌&&◌, List, Option, Some, None, IsSome, option_map, option_and_then, is_some, length, get_or, nat_le, nat_lt, sym, refl, ap, subst, ◌∙◌, arith, ◌+◌, ◌-◌, ℤ, suc, [], ◌∷◌, min, nat_eq}
 use Rattle.std.proofs.lemmas.Bool.{false≢true, eqb-true, leb-true, eq-eqb}
 use Rattle.std.proofs.lemmas.Bool.Decides.{nat_tests}
 use Rattle.std.proofs.lemmas.List.Quantifiers.{position-Some}
-use Rattle.std.proofs.lemmas.List.FromFn.{length-range_with_len, get_or-range_with_len}
+use Rattle.std.proofs.lemmas.List.FromFn.{length-range_with_len, length-map-range_with_len, get_or-range_with_len}
 use Rattle.std.specs.List.{range_with_len, position}
 use Rattle.std.specs.FinMap as map
-use Rattle.sv_form.specs.Node.{Node, is_dir, entry_inode, entry_count}
+use Rattle.sv_form.specs.Node.{Node, is_dir, byte_of, bytes_of, entry_inode, entry_count}
+use Rattle.sv_plain.specs.declared.mode.Mode.{Mode}
+use Rattle.sv_plain.specs.declared.opening.Opening.{Opening}
 use Rattle.sv_plain.specs.declared.need.Need.{Need}
 use Rattle.sv_plain.specs.declared.reply.Reply.{Reply}
-use Rattle.sv_plain.specs.declared.reply.Reply.TheVariants.{Found, Freed, Done, Granted}
+use Rattle.sv_plain.specs.declared.reply.Reply.TheVariants.{Found, Freed, Opened, Dupped, Got, At, Done, Granted}
 use Rattle.sv_plain.specs.Totals.{at_or_0}
-use Rattle.sv_plain.specs.Fs.{Fs, is_full_for, is_live, is_referenced, room}
+use Rattle.sv_plain.specs.Fs.{Fs, holders, is_full_for, is_live, is_referenced, room}
 use Rattle.sv_plain.specs.Whole.{IsWhole}
-use Rattle.sv_plain.specs.Names.{some_and, is_entry, place_of, child_of, child, child_passes, is_directory, is_open_to_names, has_reference, links_of}
+use Rattle.sv_plain.specs.Names.{some_and, same_bytes, is_lowest_unused, is_entry, place_of, child_of, child, child_passes, is_directory, is_open_to_names, has_reference, links_of}
 use Rattle.sv_plain.specs.Needs.{need_of}
-use Rattle.sv_plain.specs.Change.{with_reference, without_reference, without_node}
-use Rattle.sv_plain.specs.Step.{look_replies, look_change, drop_replies, drop_change, is_left, is_too_big, promise_replies, promise_change, forgo_change}
+use Rattle.sv_plain.specs.Change.{with_offset, with_reference, without_reference, without_share, without_node}
+use Rattle.sv_plain.specs.Step.{writes, open_replies, open_change, has_file, inode_of_file, close_replies, close_change, dup_change, seek_target, seek_replies, seek_change, file_bytes, read_replies, read_change, look_replies, look_change, drop_replies, drop_change, is_left, is_too_big, promise_replies, promise_change, forgo_change}
 use Rattle.sv_plain.proofs.Got.{and_left, and_right, not_true}
-use Rattle.sv_plain.proofs.KeepsReferences.{keeps-one_more, keeps-one_less, number_within}
+use Rattle.sv_plain.proofs.KeepsReferences.{held, keeps-one_more, keeps-one_less, number_within}
 use Rattle.sv_plain.proofs.KeepsPromises.{keeps-promise, keeps-forgo}
-use Rattle.sv_plain.proofs.KeepsRemoval.{keeps-removal}
+use Rattle.sv_plain.proofs.KeepsRemoval.{keeps-removal, holders-some_reference}
+use Rattle.sv_plain.proofs.KeepsFiles.{keeps-new_file, keeps-changed_file, keeps-one_share_less}
 
 -- ---- names
 
@@ -103,3 +106,76 @@ keeps-promised fs p n _ w right = w
 pub keeps-forgone : (fs : Fs) (p : ℕ) (reply : Reply) → IsWhole fs → IsWhole (forgo_change fs p reply)
 keeps-forgone fs p Done w = keeps-forgo fs p w
 keeps-forgone fs p _ w = w
+
+-- ---- files
+
+some_holders : (n : ℕ) → 1 ≤ n → not (n == 0) ≡ true
+some_holders n h = grind (arith, nat_tests)
+
+holder-of : (fs : Fs) (p i : ℕ) → has_reference fs p i ≡ true → is_referenced fs i ≡ true
+holder-of fs p i has =
+    let one = held (map.get fs.references (p, i)) has in
+    some_holders (holders fs.references fs.files i) (holders-some_reference fs p i one.0 one.1)
+
+pub keeps-open : (fs : Fs) (p i : ℕ) (mode : Mode) (reply : Reply) → IsWhole fs → has_reference fs p i ≡ true → open_replies fs i mode reply ≡ true → IsWhole (open_change fs p i mode reply)
+keeps-open fs p i mode (Opened f) w has right =
+    let one = held (map.get fs.references (p, i)) has in
+    let there = (w.references p i one.0 one.1).1 in
+    let may = and_left (not (is_directory fs i && writes mode)) (is_lowest_unused fs f) right in
+    let unused = not_true (map.contains_key fs.files f) (and_left (not (map.contains_key fs.files f)) _ (and_right (not (is_directory fs i && writes mode)) (is_lowest_unused fs f) right)) in
+    keeps-one_less (record fs { files = map.insert fs.files f (record { inode = i; mode = mode; offset = 0; count = 1 }) }) p i
+    (keeps-new_file fs f i mode w there (holder-of fs p i has) may unused)
+    has
+keeps-open fs p i mode _ w has right = w
+
+pub keeps-close : (fs : Fs) (file : ℕ) (reply : Reply) → IsWhole fs → close_replies fs file reply ≡ true → IsWhole (close_change fs file reply)
+keeps-close fs file Freed w right =
+    let after : Fs = without_share fs file in
+    let i : ℕ = inode_of_file fs file in
+    let lost = and_right (not (has_file after file)) (is_left after i) right in
+    keeps-removal after i (keeps-one_share_less fs file w)
+    (eqb-true (links_of after i) 0 (and_left (links_of after i == 0) (not (is_referenced after i)) lost))
+    (not_true (is_referenced after i) (and_right (links_of after i == 0) (not (is_referenced after i)) lost))
+keeps-close fs file _ w right = keeps-one_share_less fs file w
+
+pub keeps-dup : (fs : Fs) (file : ℕ) (reply : Reply) → IsWhole fs → IsWhole (dup_change fs file reply)
+keeps-dup fs file Dupped w =
+    keeps-changed_file fs file (λ f. record f { count = f.count + 1 }) w
+    (λ g there. record { inode = refl; mode = refl; shared = omega arith; offset = (w.files file g there).offset })
+keeps-dup fs file _ w = w
+
+pub keeps-seek : (fs : Fs) (file : ℕ) (offset : ℤ) (whence : ℕ) (reply : Reply) → IsWhole fs → seek_replies fs file offset whence reply ≡ true → IsWhole (seek_change fs file reply)
+keeps-seek fs file offset whence (At n) w right =
+    let t = passes (seek_target fs file offset whence) (λ t. (t == n) && nat_le t fs.greatest) right in
+    let is = eqb-true t.0 n (and_left (t.0 == n) (nat_le t.0 fs.greatest) t.2) in
+    let fits = leb-true t.0 fs.greatest (and_right (t.0 == n) (nat_le t.0 fs.greatest) t.2) in
+    keeps-changed_file fs file (with_offset n) w
+    (λ g there. record { inode = refl; mode = refl; shared = (w.files file g there).shared; offset = omega (arith, is, fits) })
+keeps-seek fs file offset whence _ w right = w
+
+same_length : (xs ys : List ℕ) → same_bytes xs ys ≡ true → length xs ≡ length ys
+same_length [] [] e = refl
+same_length [] (y ∷ ys) e = cc
+same_length (x ∷ xs) [] e = cc
+same_length (x ∷ xs) (y ∷ ys) e = ap suc (same_length xs ys (and_right (nat_eq x y) _ e))
+
+length-file_bytes : (block : ℕ) (node : Node) (offset count : ℕ) → length (file_bytes block node offset count) ≡ min count (node.size - offset)
+unfolding bytes_of
+length-file_bytes block node offset count = length-map-range_with_len (byte_of block node) offset (min count (node.size - offset))
+
+within_size : (offset size count greatest : ℕ) → offset ≤ greatest → size ≤ greatest → offset + min count (size - offset) ≤ greatest
+within_size offset size count greatest h k = omega (arith, h, k)
+
+pub keeps-read : (fs : Fs) (file count : ℕ) (reply : Reply) → IsWhole fs → read_replies fs file count reply ≡ true → IsWhole (read_change fs file reply)
+keeps-read fs file count (Got bytes) w right =
+    let f = passes (map.get fs.files file) (λ f. some_and (map.get fs.nodes f.inode) (λ node. same_bytes bytes (file_bytes fs.block node f.offset count))) right in
+    let node = passes (map.get fs.nodes f.0.inode) (λ node. same_bytes bytes (file_bytes fs.block node f.0.offset count)) f.2 in
+    let long = same_length bytes (file_bytes fs.block node.0 f.0.offset count) node.2 ∙ length-file_bytes fs.block node.0 f.0.offset count in
+    let fits = within_size f.0.offset node.0.size count fs.greatest (w.files file f.0 f.1).offset (w.nodes f.0.inode node.0 node.1).size in
+    keeps-changed_file fs file (λ g. with_offset (g.offset + length bytes) g) w
+    (λ g there.
+    (let same : Some g ≡ Some f.0 = sym there ∙ f.1 in
+    let is : g ≡ f.0 = cc in
+    let offset : g.offset ≡ f.0.offset = ap (λ (x : Opening). x.offset) is in
+    record { inode = refl; mode = refl; shared = (w.files file g there).shared; offset = omega (arith, long, fits, offset) }))
+keeps-read fs file count _ w right = w

@@ -3,6 +3,7 @@ pub mod Counts
 pub mod Got
 pub mod Holders
 pub mod Kept
+pub mod KeepsFiles
 pub mod KeepsPromises
 pub mod KeepsReferences
 pub mod KeepsRemoval

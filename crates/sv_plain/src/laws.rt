@@ -1,6 +1,6 @@
 // What holds of the steps themselves, without code.
-ghost use Rattle.std.specs.Prelude.{ℕ, List};
-ghost use Rattle.sv_form.specs.declared.kind.Kind.{Kind};
+ghost use Rattle.std.specs.Prelude.{ℕ, ℤ, List};
+ghost use Rattle.sv_plain.specs.declared.mode.Mode.{Mode};
 ghost use Rattle.sv_plain.specs.declared.need.Need.{Need};
 ghost use Rattle.sv_plain.specs.declared.op.Op.TheVariants as op;
 ghost use Rattle.sv_plain.specs.Laws.{KeepsWhole};
@@ -9,6 +9,11 @@ ghost use Rattle.sv_plain.specs.Laws.{KeepsWhole};
 pub fn steps_keep_whole()
     ensures look { (dir : ℕ) (name : List ℕ) → KeepsWhole (op.Look dir name) }
     ensures dropped { (ino : ℕ) → KeepsWhole (op.Drop ino) }
+    ensures open { (ino : ℕ) (mode : Mode) → KeepsWhole (op.OpenFile ino mode) }
+    ensures close { (file : ℕ) → KeepsWhole (op.CloseFile file) }
+    ensures dup { (file : ℕ) → KeepsWhole (op.DupFile file) }
+    ensures read { (file count : ℕ) → KeepsWhole (op.Read file count) }
+    ensures seek { (file : ℕ) (offset : ℤ) (whence : ℕ) → KeepsWhole (op.Seek file offset whence) }
     ensures stat { (ino : ℕ) → KeepsWhole (op.Stat ino) }
     ensures promise { (need : Need) → KeepsWhole (op.Promise need) }
     ensures forgo { KeepsWhole op.Forgo }

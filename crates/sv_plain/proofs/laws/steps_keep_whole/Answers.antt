@@ -1,6 +1,8 @@
 use Rattle.std.proofs.Common.{sym, subst}
 use Rattle.sv_plain.specs.Whole.{IsWhole}
-use Rattle.sv_plain.proofs.KeepsWhole.{keeps-look, keeps-drop, keeps-promised, keeps-forgone}
+use Rattle.sv_plain.specs.Names.{has_reference}
+use Rattle.sv_plain.proofs.Got.{and_left}
+use Rattle.sv_plain.proofs.KeepsWhole.{keeps-look, keeps-drop, keeps-open, keeps-close, keeps-dup, keeps-read, keeps-seek, keeps-promised, keeps-forgone}
 use Rattle.sv_plain.proofs.laws.steps_keep_whole.Goals as goal
 
 pub returns-clause-look : goal.returns-clause-look
@@ -8,6 +10,21 @@ returns-clause-look c = λ dir name fs after p reply w s. subst IsWhole (sym s.c
 
 pub returns-clause-dropped : goal.returns-clause-dropped
 returns-clause-dropped c = λ ino fs after p reply w s. subst IsWhole (sym s.changed) (keeps-drop fs p ino reply w s.allowed s.right)
+
+pub returns-clause-open : goal.returns-clause-open
+returns-clause-open c = λ ino mode fs after p reply w s. subst IsWhole (sym s.changed) (keeps-open fs p ino mode reply w (and_left (has_reference fs p ino) _ s.allowed) s.right)
+
+pub returns-clause-close : goal.returns-clause-close
+returns-clause-close c = λ file fs after p reply w s. subst IsWhole (sym s.changed) (keeps-close fs file reply w s.right)
+
+pub returns-clause-dup : goal.returns-clause-dup
+returns-clause-dup c = λ file fs after p reply w s. subst IsWhole (sym s.changed) (keeps-dup fs file reply w)
+
+pub returns-clause-read : goal.returns-clause-read
+returns-clause-read c = λ file count fs after p reply w s. subst IsWhole (sym s.changed) (keeps-read fs file count reply w s.right)
+
+pub returns-clause-seek : goal.returns-clause-seek
+returns-clause-seek c = λ file offset whence fs after p reply w s. subst IsWhole (sym s.changed) (keeps-seek fs file offset whence reply w s.right)
 
 pub returns-clause-stat : goal.returns-clause-stat
 returns-clause-stat c = λ ino fs after p reply w s. subst IsWhole (sym s.changed) w
