@@ -19,7 +19,7 @@ References = map.FinMap pair_cmp ℕ
 abbrev pub Files : Type 0
 Files = map.FinMap nat_cmp Opening
 
-zeros : {X : Type 0} (o : Option X) (n : ℕ) → n ≡ 0 → at_or_0 (λ _. n) o ≡ 0
+pub zeros : {X : Type 0} (o : Option X) (n : ℕ) → n ≡ 0 → at_or_0 (λ _. n) o ≡ 0
 zeros None n e = refl
 zeros (Some x) n e = e
 

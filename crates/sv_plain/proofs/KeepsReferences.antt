@@ -12,7 +12,7 @@ use Rattle.sv_plain.specs.Change.{one_more, one_less, with_reference, without_re
 use Rattle.sv_plain.proofs.Got.{got, left}
 use Rattle.sv_plain.proofs.Holders.{References, Files, holders-insert, holders-remove, holders-insert_apart, holders-remove_apart, places-fewer, places-more}
 
-some_item : {A : Type 0} (o : Option A) → IsSome o → (x : A) × (o ≡ Some x)
+pub some_item : {A : Type 0} (o : Option A) → IsSome o → (x : A) × (o ≡ Some x)
 some_item None e = absurd (false≢true e)
 some_item (Some x) e = (x, refl)
 

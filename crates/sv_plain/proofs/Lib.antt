@@ -3,7 +3,9 @@ pub mod Counts
 pub mod Got
 pub mod Holders
 pub mod Kept
+pub mod KeepsFile
 pub mod KeepsFiles
+pub mod KeepsLinks
 pub mod KeepsPromises
 pub mod KeepsReferences
 pub mod KeepsRemoval

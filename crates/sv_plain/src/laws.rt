@@ -9,11 +9,14 @@ ghost use Rattle.sv_plain.specs.Laws.{KeepsWhole};
 pub fn steps_keep_whole()
     ensures look { (dir : ℕ) (name : List ℕ) → KeepsWhole (op.Look dir name) }
     ensures dropped { (ino : ℕ) → KeepsWhole (op.Drop ino) }
+    ensures add_link { (ino : ℕ) → KeepsWhole (op.AddLink ino) }
+    ensures sub_link { (ino : ℕ) → KeepsWhole (op.SubLink ino) }
     ensures open { (ino : ℕ) (mode : Mode) → KeepsWhole (op.OpenFile ino mode) }
     ensures close { (file : ℕ) → KeepsWhole (op.CloseFile file) }
     ensures dup { (file : ℕ) → KeepsWhole (op.DupFile file) }
     ensures read { (file count : ℕ) → KeepsWhole (op.Read file count) }
     ensures seek { (file : ℕ) (offset : ℤ) (whence : ℕ) → KeepsWhole (op.Seek file offset whence) }
+    ensures trunc { (ino : ℕ) → KeepsWhole (op.Trunc ino) }
     ensures stat { (ino : ℕ) → KeepsWhole (op.Stat ino) }
     ensures promise { (need : Need) → KeepsWhole (op.Promise need) }
     ensures forgo { KeepsWhole op.Forgo }

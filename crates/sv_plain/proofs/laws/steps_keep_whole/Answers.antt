@@ -1,7 +1,8 @@
 use Rattle.std.proofs.Common.{sym, subst}
 use Rattle.sv_plain.specs.Whole.{IsWhole}
 use Rattle.sv_plain.specs.Names.{has_reference}
-use Rattle.sv_plain.proofs.Got.{and_left}
+use Rattle.sv_plain.proofs.Got.{and_left, and_right}
+use Rattle.sv_plain.proofs.KeepsLinks.{keeps-add_link, keeps-sub_link, keeps-trunc}
 use Rattle.sv_plain.proofs.KeepsWhole.{keeps-look, keeps-drop, keeps-open, keeps-close, keeps-dup, keeps-read, keeps-seek, keeps-promised, keeps-forgone}
 use Rattle.sv_plain.proofs.laws.steps_keep_whole.Goals as goal
 
@@ -10,6 +11,15 @@ returns-clause-look c = λ dir name fs after p reply w s. subst IsWhole (sym s.c
 
 pub returns-clause-dropped : goal.returns-clause-dropped
 returns-clause-dropped c = λ ino fs after p reply w s. subst IsWhole (sym s.changed) (keeps-drop fs p ino reply w s.allowed s.right)
+
+pub returns-clause-add_link : goal.returns-clause-add_link
+returns-clause-add_link c = λ ino fs after p reply w s. subst IsWhole (sym s.changed) (keeps-add_link fs p ino reply w (and_left (has_reference fs p ino) _ s.allowed) (and_right (has_reference fs p ino) _ s.allowed) s.right)
+
+pub returns-clause-sub_link : goal.returns-clause-sub_link
+returns-clause-sub_link c = λ ino fs after p reply w s. subst IsWhole (sym s.changed) (keeps-sub_link fs p ino reply w (and_right (has_reference fs p ino) _ s.allowed))
+
+pub returns-clause-trunc : goal.returns-clause-trunc
+returns-clause-trunc c = λ ino fs after p reply w s. subst IsWhole (sym s.changed) (keeps-trunc fs p ino reply w s.allowed s.right)
 
 pub returns-clause-open : goal.returns-clause-open
 returns-clause-open c = λ ino mode fs after p reply w s. subst IsWhole (sym s.changed) (keeps-open fs p ino mode reply w (and_left (has_reference fs p ino) _ s.allowed) s.right)
