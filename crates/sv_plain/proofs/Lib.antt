@@ -7,6 +7,7 @@ pub mod KeepsFile
 pub mod KeepsFiles
 pub mod KeepsLinks
 pub mod KeepsPromises
+pub mod KeepsPurge
 pub mod KeepsReferences
 pub mod KeepsRemoval
 pub mod KeepsWhole

@@ -21,5 +21,6 @@ pub fn steps_keep_whole()
     ensures promise { (need : Need) → KeepsWhole (op.Promise need) }
     ensures forgo { KeepsWhole op.Forgo }
     ensures sync { KeepsWhole op.Sync }
+    ensures purge { KeepsWhole op.Purge }
 {
 }

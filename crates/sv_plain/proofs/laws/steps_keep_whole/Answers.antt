@@ -4,6 +4,7 @@ use Rattle.sv_plain.specs.Names.{has_reference}
 use Rattle.sv_plain.proofs.Got.{and_left, and_right}
 use Rattle.sv_plain.proofs.KeepsLinks.{keeps-add_link, keeps-sub_link, keeps-trunc}
 use Rattle.sv_plain.proofs.KeepsWhole.{keeps-look, keeps-drop, keeps-open, keeps-close, keeps-dup, keeps-read, keeps-seek, keeps-promised, keeps-forgone}
+use Rattle.sv_plain.proofs.KeepsPurge.{keeps-purge}
 use Rattle.sv_plain.proofs.laws.steps_keep_whole.Goals as goal
 
 pub returns-clause-look : goal.returns-clause-look
@@ -47,3 +48,6 @@ returns-clause-forgo c = λ fs after p reply w s. subst IsWhole (sym s.changed) 
 
 pub returns-clause-sync : goal.returns-clause-sync
 returns-clause-sync c = λ fs after p reply w s. subst IsWhole (sym s.changed) w
+
+pub returns-clause-purge : goal.returns-clause-purge
+returns-clause-purge c = λ fs after p reply w s. keeps-purge fs after reply w s.changed
