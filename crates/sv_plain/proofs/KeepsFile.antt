@@ -1,16 +1,15 @@
 -- A file system stays whole where a regular file becomes another one at its number: with other bytes, or with other links.
-use Rattle.std.proofs.Common.{◌≡◌, ◌≢◌, ◌≤◌, ◌<◌, ℕ, zero, suc, ◌+◌, ◌-◌, ◌==◌, ◌⊎◌, inl, inr, Bool, true, false, cond, not, ◌&&◌, nat_lt, if◌then◌else◌, Option, Some, None, IsSome, sym, refl, ap, subst, ◌∙◌, arith}
+use Rattle.std.proofs.Common.{◌≡◌, ◌≢◌, ◌≤◌, ℕ, zero, suc, ◌+◌, ◌⊎◌, inl, inr, true, false, cond, ◌&&◌, nat_lt, if◌then◌else◌, Some, IsSome, sym, refl, ap, subst, ◌∙◌, arith}
 use Rattle.std.proofs.lemmas.Bool.{false≢true, cases_eq}
 use Rattle.std.specs.Ordering.{nat_cmp, eq_by_cmp}
 use Rattle.std.specs.Cmp.{nat_cmp_total}
 use Rattle.std.specs.FinMap as map
 use Rattle.std.specs.FinMap.{nat_cmp-IsAntisymmetric}
-use Rattle.sv_form.specs.declared.kind.Kind.{Kind}
 use Rattle.sv_form.specs.declared.kind.Kind.TheVariants.{File, Dir}
-use Rattle.sv_form.specs.Node.{Node, is_dir, used, entry_inode, entry_count}
-use Rattle.sv_plain.specs.Totals.{total, at_or_0, one_if}
+use Rattle.sv_form.specs.Node.{Node, is_dir, entry_inode}
+use Rattle.sv_plain.specs.Totals.{at_or_0}
 use Rattle.sv_plain.specs.Fs.{Fs, used_by_all, promised, is_live, naming_count, namings, children, pending_on}
-use Rattle.sv_plain.specs.Whole.{IsWhole, IsNode, IsRoot, IsPlaced, IsFileOf, parent_of, ascend}
+use Rattle.sv_plain.specs.Whole.{IsWhole, IsNode, parent_of, ascend}
 use Rattle.sv_plain.proofs.Got.{got}
 use Rattle.sv_plain.proofs.Totals.{total-insert}
 use Rattle.sv_plain.proofs.Counts.{differs, same_key}

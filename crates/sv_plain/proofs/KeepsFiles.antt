@@ -1,20 +1,17 @@
 -- A file system stays whole where files of the file table come, go and move.
-use Rattle.std.proofs.Common.{◌≡◌, ◌≢◌, ◌≤◌, ℕ, ◌+◌, ◌-◌, ◌==◌, ◌⊎◌, inl, inr, Bool, true, false, cond, not, ◌&&◌, leb, if◌then◌else◌, Option, Some, None, IsSome, is_some, sym, refl, ap, subst, ◌∙◌, arith}
-use Rattle.std.proofs.lemmas.Bool.{false≢true, eqb-true, leb-true}
+use Rattle.std.proofs.Common.{◌≡◌, ◌≤◌, ℕ, ◌+◌, ◌-◌, ◌==◌, ◌⊎◌, inl, inr, Bool, true, false, not, ◌&&◌, leb, if◌then◌else◌, Option, Some, None, IsSome, is_some, sym, refl, ap, subst, ◌∙◌, arith}
 use Rattle.std.proofs.lemmas.Bool.Decides.{nat_tests}
-use Rattle.std.specs.Ordering.{nat_cmp}
 use Rattle.std.specs.Cmp.{nat_cmp_total}
 use Rattle.std.specs.FinMap as map
 use Rattle.std.specs.FinMap.{nat_cmp-IsAntisymmetric}
-use Rattle.sv_form.specs.declared.kind.Kind.TheVariants.{Dir}
 use Rattle.sv_form.specs.Node.{Node, is_dir}
 use Rattle.sv_plain.specs.declared.mode.Mode.{Mode}
 use Rattle.sv_plain.specs.declared.mode.Mode.TheVariants.{R, W, RW}
 use Rattle.sv_plain.specs.declared.opening.Opening.{Opening}
-use Rattle.sv_plain.specs.Totals.{total, at_or_0, one_if}
+use Rattle.sv_plain.specs.Totals.{at_or_0, one_if}
 use Rattle.sv_plain.specs.Fs.{Fs, holders, places_taken, is_referenced}
 use Rattle.sv_plain.specs.Whole.{IsWhole, IsFileOf}
-use Rattle.sv_plain.specs.Names.{some_and, is_directory, is_lowest_unused}
+use Rattle.sv_plain.specs.Names.{some_and, is_directory}
 use Rattle.sv_plain.specs.Change.{at_file, changed_file, unshared, without_share}
 use Rattle.sv_plain.specs.Step.{writes}
 use Rattle.sv_plain.proofs.Got.{got, left}
@@ -79,9 +76,9 @@ still_file fs g f s h = record {
 pub keeps-same_file : (fs : Fs) (n : ℕ) (g f : Opening) → IsWhole fs → map.get fs.files n ≡ Some g → IsSameFile fs.greatest g f → IsWhole (record fs { files = map.insert fs.files n f })
 keeps-same_file fs n g f w there s =
     let holders_same : (j : ℕ) → holders fs.references (map.insert fs.files n f) j ≡ holders fs.references fs.files j = λ j.
-        (let before : at_or_0 (λ (h : Opening). one_if (h.inode == j)) (map.get fs.files n) ≡ one_if (g.inode == j) = ap (at_or_0 (λ (h : Opening). one_if (h.inode == j))) there in
-        let same : one_if (f.inode == j) ≡ one_if (g.inode == j) = ap (λ i. one_if (i == j)) s.inode in
-        omega (arith, holders-insert_file fs.references fs.files n f j, before, same)) in
+    (let before : at_or_0 (λ (h : Opening). one_if (h.inode == j)) (map.get fs.files n) ≡ one_if (g.inode == j) = ap (at_or_0 (λ (h : Opening). one_if (h.inode == j))) there in
+    let same : one_if (f.inode == j) ≡ one_if (g.inode == j) = ap (λ i. one_if (i == j)) s.inode in
+    omega (arith, holders-insert_file fs.references fs.files n f j, before, same)) in
     keeps-files fs (map.insert fs.files n f) w
     (λ k h e. elim (got nat_cmp_total nat_cmp-IsAntisymmetric fs.files n f k h e) [
       | inl is ↦ subst (λ (x : Opening). IsFileOf fs.greatest fs.nodes x) (sym is.1) (still_file fs g f s (w.files n g there))
@@ -155,12 +152,15 @@ share fs n g w there true last =
     let here = w.files n g there in
     keeps-files fs (map.remove fs.files n) w
     (λ k h e. w.files k h (left nat_cmp_total nat_cmp-IsAntisymmetric fs.files n k h e))
-    (omega (arith, w.places,
-    places-fewer fs.inodes g.inode fs.references fs.references fs.files (map.remove fs.files n) (number_within fs g.inode w here.there)
-    (λ j ne.
-    (let before : at_or_0 (λ (h : Opening). one_if (h.inode == j)) (map.get fs.files n) ≡ one_if (g.inode == j) = ap (at_or_0 (λ (h : Opening). one_if (h.inode == j))) there in
-    omega (arith, holders-remove_file fs.references fs.files n j, before, apart g.inode j ne)))
-    (omega (arith, holders-remove_file fs.references fs.files n g.inode))))
+    (omega (
+      arith,
+      w.places,
+      places-fewer fs.inodes g.inode fs.references fs.references fs.files (map.remove fs.files n) (number_within fs g.inode w here.there)
+          (λ j ne.
+          (let before : at_or_0 (λ (h : Opening). one_if (h.inode == j)) (map.get fs.files n) ≡ one_if (g.inode == j) = ap (at_or_0 (λ (h : Opening). one_if (h.inode == j))) there in
+          omega (arith, holders-remove_file fs.references fs.files n j, before, apart g.inode j ne)))
+          (omega (arith, holders-remove_file fs.references fs.files n g.inode)),
+    ))
 share fs n g w there false many =
     let here = w.files n g there in
     keeps-same_file fs n g (record g { count = g.count - 1 }) w there

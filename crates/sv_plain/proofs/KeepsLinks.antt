@@ -1,6 +1,6 @@
 -- A file system stays whole where a regular file gains or loses a pending link, or its bytes.
-use Rattle.std.proofs.Common.{◌≡◌, ◌≢◌, ◌≤◌, ℕ, ◌+◌, ◌-◌, ◌==◌, ◌⊎◌, inl, inr, Bool, true, false, not, ◌&&◌, Option, Some, None, IsSome, is_some, option_map, sym, refl, ap, subst, ◌∙◌, arith}
-use Rattle.std.proofs.lemmas.Bool.{false≢true, eqb-true, eq-eqb}
+use Rattle.std.proofs.Common.{◌≡◌, ◌≤◌, ℕ, ◌+◌, ◌-◌, ◌==◌, inl, inr, true, false, not, ◌&&◌, Option, Some, None, is_some, option_map, sym, refl, ap, subst, ◌∙◌, arith}
+use Rattle.std.proofs.lemmas.Bool.{false≢true, eqb-true}
 use Rattle.std.proofs.lemmas.Bool.Decides.{nat_tests}
 use Rattle.std.specs.Ordering.{nat_cmp}
 use Rattle.std.specs.Cmp.{nat_cmp_total}
@@ -11,20 +11,20 @@ use Rattle.sv_form.specs.declared.kind.Kind.TheVariants.{File, Dir}
 use Rattle.sv_form.specs.Node.{Node, is_dir, used}
 use Rattle.sv_plain.specs.declared.reply.Reply.{Reply}
 use Rattle.sv_plain.specs.declared.reply.Reply.TheVariants.{Raised, Lowered, Done}
-use Rattle.sv_plain.specs.Totals.{total, at_or_0, one_if}
-use Rattle.sv_plain.specs.Fs.{Fs, used_by_all, promised, changed, insert_some, pending_on}
+use Rattle.sv_plain.specs.Totals.{at_or_0, one_if}
+use Rattle.sv_plain.specs.Fs.{Fs, used_by_all, changed, insert_some, pending_on}
 use Rattle.sv_plain.specs.Whole.{IsWhole, IsNode}
 use Rattle.sv_plain.specs.Names.{some_and, is_directory, links_of, has_reference, is_pending}
 use Rattle.sv_plain.specs.Change.{with_links, emptied}
 use Rattle.sv_plain.specs.Step.{add_link_replies, add_link_change, sub_link_change, trunc_replies, trunc_change}
 use Rattle.sv_plain.proofs.Got.{and_left, and_right, not_true, got, left}
 use Rattle.sv_plain.proofs.Totals.{total-insert, total-remove}
-use Rattle.sv_plain.proofs.Holders.{apart, itself, zeros}
+use Rattle.sv_plain.proofs.Holders.{apart, itself}
 use Rattle.sv_plain.proofs.Used.{used-none, used_by_all-insert}
 use Rattle.sv_plain.proofs.KeepsPromises.{Promises}
 use Rattle.sv_plain.proofs.KeepsReferences.{held, some_item}
 use Rattle.sv_plain.proofs.KeepsRemoval.{Nodes}
-use Rattle.sv_plain.proofs.KeepsFile.{IsOtherFile, keeps-file}
+use Rattle.sv_plain.proofs.KeepsFile.{keeps-file}
 
 -- ---- pending links
 

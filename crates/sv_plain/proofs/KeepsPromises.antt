@@ -1,10 +1,10 @@
 -- A file system stays whole where promises come and go.
-use Rattle.std.proofs.Common.{◌≡◌, ◌≤◌, ℕ, ◌+◌, ◌-◌, not, true, false, Option, Some, None, is_some, sym, ap, arith}
+use Rattle.std.proofs.Common.{◌≡◌, ◌≤◌, ℕ, ◌+◌, arith}
 use Rattle.std.specs.Ordering.{nat_cmp}
 use Rattle.std.specs.Cmp.{nat_cmp_total}
 use Rattle.std.specs.FinMap as map
 use Rattle.std.specs.FinMap.{nat_cmp-IsAntisymmetric}
-use Rattle.sv_plain.specs.Totals.{total, at_or_0}
+use Rattle.sv_plain.specs.Totals.{at_or_0}
 use Rattle.sv_plain.specs.Fs.{Fs, used_by_all, promised, room}
 use Rattle.sv_plain.specs.Whole.{IsWhole}
 use Rattle.sv_plain.proofs.Totals.{total-insert, total-remove}

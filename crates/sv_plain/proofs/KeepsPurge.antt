@@ -1,6 +1,6 @@
 -- A file system stays whole where nodes go that no link leads to and that nothing refers to.
-use Rattle.std.proofs.Common.{◌≡◌, ◌≢◌, ℕ, ◌+◌, ◌==◌, ◌⊎◌, inl, inr, Bool, true, false, cond, not, ◌&&◌, ◌||◌, eqb, List, [], ◌∷◌, map, Option, Some, None, IsSome, is_some, sym, refl, ap, subst, ◌∙◌, arith}
-use Rattle.std.proofs.lemmas.Bool.{false≢true, eqb-true, eq-eqb}
+use Rattle.std.proofs.Common.{◌≡◌, ℕ, ◌==◌, Bool, true, false, cond, not, ◌&&◌, ◌||◌, List, [], ◌∷◌, Option, Some, None, is_some, sym, refl, ap, subst, ◌∙◌}
+use Rattle.std.proofs.lemmas.Bool.{eqb-true}
 use Rattle.std.specs.List.{list_any, filter}
 use Rattle.std.specs.Ordering.{nat_cmp, eq_by_cmp}
 use Rattle.std.specs.Cmp.{nat_cmp_total, Equal-is}
@@ -13,9 +13,9 @@ use Rattle.sv_plain.specs.Totals.{at_or_0}
 use Rattle.sv_plain.specs.Fs.{Fs, is_referenced}
 use Rattle.sv_plain.specs.Whole.{IsWhole}
 use Rattle.sv_plain.specs.Names.{links_of, is_lost}
-use Rattle.sv_plain.specs.Change.{without_node, without_lost}
-use Rattle.sv_plain.specs.Step.{HasPurged, HasPurgedSome}
-use Rattle.sv_plain.proofs.Got.{and_left, and_right, not_true, left, get_apart}
+use Rattle.sv_plain.specs.Change.{without_node}
+use Rattle.sv_plain.specs.Step.{HasPurged}
+use Rattle.sv_plain.proofs.Got.{and_left, and_right, not_true}
 use Rattle.sv_plain.proofs.KeepsRemoval.{Nodes, keeps-removal}
 
 nested : {A : Type 0} (a b : Bool) (o : Option A) → cond a None (cond b None o) ≡ cond (a || b) None o

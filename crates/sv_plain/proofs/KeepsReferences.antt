@@ -1,16 +1,16 @@
 -- A file system stays whole where references come and go.
-use Rattle.std.proofs.Common.{◌≡◌, ◌≢◌, ◌≤◌, ℕ, ◌+◌, ◌-◌, ◌==◌, ◌⊎◌, inl, inr, Bool, true, false, cond, not, ◌&&◌, leb, if◌then◌else◌, Option, Some, None, IsSome, is_some, sym, refl, ap, subst, ◌∙◌, arith}
+use Rattle.std.proofs.Common.{◌≡◌, ◌≢◌, ◌≤◌, ℕ, ◌+◌, ◌-◌, ◌==◌, ◌⊎◌, inl, inr, Bool, true, false, not, leb, if◌then◌else◌, Option, Some, None, IsSome, sym, refl, ap, subst, arith}
 use Rattle.std.proofs.lemmas.Bool.{false≢true}
 use Rattle.std.proofs.lemmas.Bool.Decides.{nat_tests}
 use Rattle.std.specs.FinMap as map
-use Rattle.sv_form.specs.Pair.{pair_cmp, pair_cmp_total, pair_cmp-IsAntisymmetric}
+use Rattle.sv_form.specs.Pair.{pair_cmp_total, pair_cmp-IsAntisymmetric}
 use Rattle.sv_plain.specs.Totals.{at_or_0, one_if}
 use Rattle.sv_plain.specs.Fs.{Fs, holders, places_taken, is_full_for}
 use Rattle.sv_plain.specs.Whole.{IsWhole}
 use Rattle.sv_plain.specs.Names.{references_of, has_reference}
 use Rattle.sv_plain.specs.Change.{one_more, one_less, with_reference, without_reference}
 use Rattle.sv_plain.proofs.Got.{got, left}
-use Rattle.sv_plain.proofs.Holders.{References, Files, holders-insert, holders-remove, holders-insert_apart, holders-remove_apart, places-fewer, places-more}
+use Rattle.sv_plain.proofs.Holders.{References, holders-insert, holders-remove, holders-insert_apart, holders-remove_apart, places-fewer, places-more}
 
 pub some_item : {A : Type 0} (o : Option A) → IsSome o → (x : A) × (o ≡ Some x)
 some_item None e = absurd (false≢true e)
@@ -68,10 +68,11 @@ holders-one_less fs p i n there =
     (let m : References = if b then map.remove fs.references (p, i) else map.insert fs.references (p, i) (references_of fs p i - 1) in
     ((j : ℕ) → j ≢ i → holders m fs.files j ≡ holders fs.references fs.files j) × (holders m fs.files i ≤ holders fs.references fs.files i))) [
       | true ↦ (λ j ne. holders-remove_apart fs.references fs.files p i j ne, omega (arith, holders-remove fs.references fs.files p i i))
-      | false ↦
-          (λ j ne. holders-insert_apart fs.references fs.files p i (references_of fs p i - 1) j ne,
-          (let before : at_or_0 (λ (_ : ℕ). one_if (i == i)) (map.get fs.references (p, i)) ≡ one_if (i == i) = ap (at_or_0 (λ (_ : ℕ). one_if (i == i))) there in
-          omega (arith, holders-insert fs.references fs.files p i (references_of fs p i - 1) i, before)))
+      | false ↦ (
+        λ j ne. holders-insert_apart fs.references fs.files p i (references_of fs p i - 1) j ne,
+        (let before : at_or_0 (λ (_ : ℕ). one_if (i == i)) (map.get fs.references (p, i)) ≡ one_if (i == i) = ap (at_or_0 (λ (_ : ℕ). one_if (i == i))) there in
+            omega (arith, holders-insert fs.references fs.files p i (references_of fs p i - 1) i, before)),
+      )
     ]
 
 -- the entries once a reference was given back

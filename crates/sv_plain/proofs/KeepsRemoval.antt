@@ -1,6 +1,6 @@
 -- A file system stays whole where a node goes that no link leads to and that nothing refers to.
-use Rattle.std.proofs.Common.{◌≡◌, ◌≢◌, ◌≤◌, ◌<◌, ℕ, zero, suc, ◌+◌, ◌-◌, ◌==◌, ◌⊎◌, inl, inr, Bool, true, false, cond, not, ◌&&◌, nat_lt, if◌then◌else◌, Option, Some, None, IsSome, sym, refl, ap, subst, ◌∙◌, arith}
-use Rattle.std.proofs.lemmas.Bool.{false≢true, cases_eq, eq-eqb, eqb-true}
+use Rattle.std.proofs.Common.{◌≡◌, ◌≢◌, ◌≤◌, ◌<◌, ℕ, zero, suc, ◌-◌, ◌==◌, ◌⊎◌, inl, inr, Bool, true, false, not, ◌&&◌, nat_lt, if◌then◌else◌, Option, Some, None, IsSome, sym, refl, ap, subst, ◌∙◌, arith}
+use Rattle.std.proofs.lemmas.Bool.{false≢true, cases_eq, eq-eqb}
 use Rattle.std.proofs.lemmas.Bool.Decides.{nat_tests}
 use Rattle.std.specs.declared.cmp.Ordering.{Ordering}
 use Rattle.std.specs.Ordering.{nat_cmp}
@@ -11,7 +11,7 @@ use Rattle.sv_form.specs.Node.{Node, is_dir, used, entry_inode, entry_count}
 use Rattle.sv_plain.specs.declared.opening.Opening.{Opening}
 use Rattle.sv_plain.specs.Totals.{total, at_or_0, one_if}
 use Rattle.sv_plain.specs.Fs.{Fs, holders, used_by_all, is_live, is_referenced, naming_count, namings, children, pending_on}
-use Rattle.sv_plain.specs.Whole.{IsWhole, IsRoot, IsPlaced, IsFileOf, parent_of, ascend}
+use Rattle.sv_plain.specs.Whole.{IsWhole, parent_of, ascend}
 use Rattle.sv_plain.specs.Names.{links_of}
 use Rattle.sv_plain.specs.Change.{without_node}
 use Rattle.sv_plain.proofs.Got.{left, get_apart}
@@ -168,13 +168,14 @@ removal fs i node w there none idle =
           (let before = w.ascends d x (was d x e) live in
           (before.0, ascends-same fs.block fs.nodes i node there dead (above-live fs w) before.0 d x (was d x e) live ∙ before.1));
       references = λ p j n e.
-          (let before = w.references p j n e in
-          (before.0,
-          some_apart fs.nodes i j
-          (λ s. (let one = holders-some_reference fs p j n e in
-          let at : holders fs.references fs.files j ≡ holders fs.references fs.files i = ap (holders fs.references fs.files) s in
-          absurd (omega (arith, one, at, idle))))
-          before.1));
+          (let before = w.references p j n e in (
+            before.0,
+            some_apart fs.nodes i j
+                (λ s. (let one = holders-some_reference fs p j n e in
+                let at : holders fs.references fs.files j ≡ holders fs.references fs.files i = ap (holders fs.references fs.files) s in
+                absurd (omega (arith, one, at, idle))))
+                before.1,
+          ));
       files = λ n f e.
           (let before = w.files n f e in
           record {
@@ -189,14 +190,15 @@ removal fs i node w there none idle =
             read_only = λ x e. before.read_only x (was f.inode x e);
           });
       pending = λ p j e.
-          (let before = w.pending p j e in
-          (before.0,
-          get_apart nat_cmp_total nat_cmp-IsAntisymmetric fs.nodes i j
-          (λ s. (let one = pending-some fs.pending p j e in
-          let at : pending_on fs.pending j ≡ pending_on fs.pending i = ap (pending_on fs.pending) s in
-          absurd (omega (arith, one, at, free))))
-          ∙ before.1,
-          before.2));
+          (let before = w.pending p j e in (
+            before.0,
+            get_apart nat_cmp_total nat_cmp-IsAntisymmetric fs.nodes i j
+                (λ s. (let one = pending-some fs.pending p j e in
+                let at : pending_on fs.pending j ≡ pending_on fs.pending i = ap (pending_on fs.pending) s in
+                absurd (omega (arith, one, at, free))))
+                ∙ before.1,
+            before.2,
+          ));
       places = w.places;
     }
 

@@ -1,10 +1,10 @@
 -- Each step leaves a whole file system whole, op by op.
-use Rattle.std.proofs.Common.{◌≡◌, ◌≢◌, ◌≤◌, ◌<◌, ℕ, ◌==◌, Bool, true, false, not, ◌&&◌, List, Option, Some, None, IsSome, option_map, option_and_then, is_some, length, get_or, nat_le, nat_lt, sym, refl, ap, subst, ◌∙◌, arith, ◌+◌, ◌-◌, ℤ, suc, [], ◌∷◌, min, nat_eq}
-use Rattle.std.proofs.lemmas.Bool.{false≢true, eqb-true, leb-true, eq-eqb}
+use Rattle.std.proofs.Common.{◌≡◌, ◌≢◌, ◌≤◌, ◌<◌, ℕ, ◌==◌, Bool, true, false, not, ◌&&◌, List, Option, Some, None, IsSome, option_map, option_and_then, length, get_or, nat_le, nat_lt, sym, refl, ap, subst, ◌∙◌, arith, ◌+◌, ◌-◌, ℤ, suc, [], ◌∷◌, min, nat_eq}
+use Rattle.std.proofs.lemmas.Bool.{false≢true, eqb-true, leb-true}
 use Rattle.std.proofs.lemmas.Bool.Decides.{nat_tests}
 use Rattle.std.proofs.lemmas.List.Quantifiers.{position-Some}
 use Rattle.std.proofs.lemmas.List.FromFn.{length-range_with_len, length-map-range_with_len, get_or-range_with_len}
-use Rattle.std.specs.List.{range_with_len, position}
+use Rattle.std.specs.List.{range_with_len}
 use Rattle.std.specs.FinMap as map
 use Rattle.sv_form.specs.Node.{Node, is_dir, byte_of, bytes_of, entry_inode, entry_count}
 use Rattle.sv_plain.specs.declared.mode.Mode.{Mode}
@@ -15,9 +15,9 @@ use Rattle.sv_plain.specs.declared.reply.Reply.TheVariants.{Found, Freed, Opened
 use Rattle.sv_plain.specs.Totals.{at_or_0}
 use Rattle.sv_plain.specs.Fs.{Fs, holders, is_full_for, is_live, is_referenced, room}
 use Rattle.sv_plain.specs.Whole.{IsWhole}
-use Rattle.sv_plain.specs.Names.{some_and, same_bytes, is_lowest_unused, is_entry, place_of, child_of, child, child_passes, is_directory, is_open_to_names, has_reference, links_of}
+use Rattle.sv_plain.specs.Names.{some_and, same_bytes, is_lowest_unused, is_entry, place_of, child_of, child, is_directory, is_open_to_names, has_reference, links_of}
 use Rattle.sv_plain.specs.Needs.{need_of}
-use Rattle.sv_plain.specs.Change.{with_offset, with_reference, without_reference, without_share, without_node}
+use Rattle.sv_plain.specs.Change.{with_offset, without_reference, without_share}
 use Rattle.sv_plain.specs.Step.{writes, open_replies, open_change, has_file, inode_of_file, close_replies, close_change, dup_change, seek_target, seek_replies, seek_change, file_bytes, read_replies, read_change, look_replies, look_change, drop_replies, drop_change, is_left, is_too_big, promise_replies, promise_change, forgo_change}
 use Rattle.sv_plain.proofs.Got.{and_left, and_right, not_true}
 use Rattle.sv_plain.proofs.KeepsReferences.{held, keeps-one_more, keeps-one_less, number_within}

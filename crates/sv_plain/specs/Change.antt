@@ -1,5 +1,5 @@
 -- What steps change.
-use Rattle.std.specs.Prelude.{◌+◌, ◌-◌, ◌*◌, ◌/◌, ◌%◌, ◌==◌, ◌&&◌, ◌||◌, ℕ, Bool, true, false, not, List, [], ◌∷◌, ◌++◌, map, length, max, replicate, Option, Some, None, unwrap_or, slice_index, nat_le, nat_lt, if◌then◌else◌}
+use Rattle.std.specs.Prelude.{◌+◌, ◌-◌, ◌*◌, ◌/◌, ◌%◌, ◌==◌, ◌&&◌, ℕ, not, List, [], ◌∷◌, ◌++◌, map, length, max, replicate, Option, Some, None, unwrap_or, slice_index, nat_le, nat_lt, if◌then◌else◌}
 use Rattle.std.specs.List.{range_with_len}
 use Rattle.std.specs.Ordering.{nat_cmp}
 use Rattle.std.specs.FinMap as fmap
@@ -8,9 +8,8 @@ use Rattle.sv_form.specs.Pair.{pair_cmp}
 use Rattle.sv_form.specs.declared.kind.Kind.{Kind}
 use Rattle.sv_form.specs.declared.kind.Kind.TheVariants.{File, Dir}
 use Rattle.sv_form.specs.Node.{Node, byte_of, entry_count}
-use Rattle.sv_plain.specs.declared.mode.Mode.{Mode}
 use Rattle.sv_plain.specs.declared.opening.Opening.{Opening}
-use Rattle.sv_plain.specs.Fs.{Fs, changed}
+use Rattle.sv_plain.specs.Fs.{Fs}
 use Rattle.sv_plain.specs.Names.{place_of, empty_place, references_of, is_lost}
 use Rattle.sv_plain.specs.Needs.{touched}
 

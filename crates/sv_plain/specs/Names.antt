@@ -1,14 +1,11 @@
 -- Names in directories, and what else a step asks of the state.
-use Rattle.std.specs.Prelude.{◌+◌, ◌-◌, ◌*◌, ◌/◌, ◌%◌, ◌==◌, ◌&&◌, ◌||◌, ℕ, Bool, true, false, not, List, [], ◌∷◌, Option, Some, None, length, is_some, option_map, option_and_then, nat_eq, nat_le, nat_lt, if◌then◌else◌}
+use Rattle.std.specs.Prelude.{◌-◌, ◌==◌, ◌&&◌, ℕ, Bool, true, false, not, List, Option, Some, None, is_some, option_map, option_and_then, nat_eq}
 use Rattle.std.specs.List.{range_with_len, position, count_by}
 use Rattle.std.specs.Cmp.Lexicographic.{pointwise}
-use Rattle.std.specs.Ordering.{nat_cmp}
 use Rattle.std.specs.FinMap as map
-use Rattle.sv_form.specs.Pair.{pair_cmp}
 use Rattle.sv_form.specs.declared.kind.Kind.{Kind}
 use Rattle.sv_form.specs.declared.kind.Kind.TheVariants.{File, Dir}
 use Rattle.sv_form.specs.Node.{Node, is_dir, entry_count, entry_inode, entry_name}
-use Rattle.sv_plain.specs.declared.opening.Opening.{Opening}
 use Rattle.sv_plain.specs.Totals.{total, at_or_0, one_if}
 use Rattle.sv_plain.specs.Fs.{Fs, is_referenced, places_taken}
 

@@ -1,10 +1,9 @@
 -- How many blocks a step takes at most: what a process has promised to it.
-use Rattle.std.specs.Prelude.{◌+◌, ◌-◌, ◌*◌, ◌/◌, ◌%◌, ◌==◌, ◌||◌, ℕ, Bool, not, List, [], ◌∷◌, ◌++◌, Option, is_some, if◌then◌else◌}
+use Rattle.std.specs.Prelude.{◌+◌, ◌-◌, ◌/◌, ◌%◌, ◌==◌, ◌||◌, ℕ, Bool, not, List, [], ◌∷◌, ◌++◌, is_some, if◌then◌else◌}
 use Rattle.std.specs.List.{range_with_len}
 use Rattle.std.specs.FinMap as map
 use Rattle.std.specs.FinSet as set
 use Rattle.sv_form.specs.Node.{Node, block_set, numbers_per}
-use Rattle.sv_plain.specs.declared.opening.Opening.{Opening}
 use Rattle.sv_plain.specs.declared.need.Need.{Need}
 use Rattle.sv_plain.specs.declared.need.Need.TheVariants.{Write, Enter, Make}
 use Rattle.sv_plain.specs.Totals.{at_or_0}

@@ -2,11 +2,11 @@
 -- and what each reply changes. A reply has its whole cause: the causes of the replies before it are excluded by the words
 -- that they share. A fault is always among the replies of the ops that have it: whether the device failed is not said
 -- here.
-use Rattle.std.specs.Prelude.{◌≡◌, ◌+◌, ◌-◌, ◌*◌, ◌/◌, ◌%◌, ◌==◌, ◌&&◌, ◌||◌, ℕ, ℤ, pos, negsuc, ◌+ℤ◌, Bool, true, false, not, List, [], ◌∷◌, length, take, min, Option, Some, None, is_some, nat_le, nat_lt, if◌then◌else◌}
+use Rattle.std.specs.Prelude.{◌≡◌, ◌+◌, ◌-◌, ◌%◌, ◌==◌, ◌&&◌, ◌||◌, ℕ, ℤ, pos, negsuc, ◌+ℤ◌, Bool, true, false, not, List, [], ◌∷◌, length, take, min, Option, Some, None, nat_le, nat_lt, if◌then◌else◌}
 use Rattle.std.specs.FinMap as map
 use Rattle.sv_form.specs.declared.kind.Kind.{Kind}
 use Rattle.sv_form.specs.declared.kind.Kind.TheVariants.{File, Dir}
-use Rattle.sv_form.specs.Node.{Node, bytes_of, entry_inode}
+use Rattle.sv_form.specs.Node.{Node, bytes_of}
 use Rattle.sv_plain.specs.declared.mode.Mode.{Mode}
 use Rattle.sv_plain.specs.declared.mode.Mode.TheVariants.{R, W, RW}
 use Rattle.sv_plain.specs.declared.opening.Opening.{Opening}
@@ -18,8 +18,8 @@ use Rattle.sv_plain.specs.declared.reply.Reply.{Reply}
 use Rattle.sv_plain.specs.declared.reply.Reply.TheVariants.{Found, NotFound, NotDir, Gone, Full, Fault, Kept, Freed, Late, LateMemory, Made, ManyLinks, NoInode, Raised, IsDir, Entered, Exists, Lowered, Removed, Plain, NotEmpty, Opened, Dupped, Got, Wrote, FaultAfter, At, Bad, Done, Status, Granted, NoSpace, TooBig}
 use Rattle.sv_plain.specs.Totals.{at_or_0}
 use Rattle.sv_plain.specs.Fs.{Fs, is_referenced, is_full_for, free_inodes, room, changed}
-use Rattle.sv_plain.specs.Names.{some_and, same_bytes, same_kind, has_more, is_directory, links_of, is_open_to_names, child, has_child, is_missing, child_passes, has_reference, promise_of, is_pending, is_opened, is_lowest_unused, is_table_full, is_idle, is_lost}
-use Rattle.sv_plain.specs.Needs.{range_need, write_need, enter_need, make_need, need_of}
+use Rattle.sv_plain.specs.Names.{some_and, same_bytes, same_kind, has_more, is_directory, links_of, is_missing, child_passes, has_reference, promise_of, is_pending, is_opened, is_lowest_unused, is_table_full, is_idle, is_lost}
+use Rattle.sv_plain.specs.Needs.{write_need, enter_need, make_need, need_of}
 use Rattle.sv_plain.specs.Change.{put, with_entry, without_entry, with_links, emptied, new_node, one_more, one_less, spent, changed_file, with_offset, with_reference, without_reference, without_share, without_node, without_lost}
 
 -- ---- Look

@@ -22,5 +22,4 @@ pub fn steps_keep_whole()
     ensures forgo { KeepsWhole op.Forgo }
     ensures sync { KeepsWhole op.Sync }
     ensures purge { KeepsWhole op.Purge }
-{
-}
+{}
