@@ -1,10 +1,11 @@
 -- What a holder of a stake can count on, over plain functions.
-use Rattle.std.proofs.Common.{◌≡◌, ◌==◌, ℕ, Bool, true, false, cond, List, length, Option, Some, None, IsSome, IfSome, is_some, option_map, refl, sym, ap, ◌∙◌, subst, rules}
+use Rattle.std.proofs.Common.{◌≡◌, ◌==◌, ℕ, Bool, true, false, cond, List, length, Option, Some, None, IsSome, IfSome, is_some, option_map, refl, sym, ap, ◌∙◌, subst, rules, ◌≢◌, ◌<◌, ◌≤◌, ◌+◌, ◌&&◌, ◌||◌, [], ◌∷◌, nat_le, nat_lt, arith}
 use Rattle.std.proofs.Math.Path.{fun_ext}
-use Rattle.std.proofs.lemmas.Bool.{false≢true}
-use Rattle.sv_form.specs.declared.line_range.LineRange.{LineRange}
-use Rattle.sv_store.specs.Held.{Held, Lent, Origin, SameLines, Apart, Both, line_of, put, with, without, in_ranges, chosen, rest}
-use Rattle.sv_store.specs.Calls.{CanGet, Gets, CanReturn, CanPut, Parts}
+use Rattle.std.proofs.lemmas.Bool.{false≢true, eqb-true}
+use Rattle.std.proofs.lemmas.Bool.Decides.{nat_tests}
+use Rattle.sv_form.specs.declared.owners.LineRange.{LineRange}
+use Rattle.sv_store.specs.Held.{Held, Lent, Origin, SameLines, Apart, Both, line_of, put, with, without, covers, in_ranges, chosen, rest}
+use Rattle.sv_store.specs.Calls.{CanGet, Gets, CanReturn, CanPut, CanPart, Parts}
 use Rattle.sv_store.specs.Loan.{Loan}
 
 pub eqb_same : (b : ℕ) → (b == b) ≡ true
@@ -152,3 +153,60 @@ IsSome-kept {h} {lines} {mine} {theirs} parts b l e is = ap (λ q. is_some (q b 
 
 pub IsSome-given : {h : Held} {lines : List LineRange} {mine theirs : Held} → Parts h lines mine theirs → (b l : ℕ) → in_ranges lines b l ≡ true → IsSome (h b l) → IsSome (theirs b l)
 IsSome-given {h} {lines} {mine} {theirs} parts b l e is = ap (λ q. is_some (q b l)) parts.given ∙ (is_some-chosen lines h b l true e ∙ is)
+
+or-false : (t : Bool) → (t || false) ≡ t
+or-false true = refl
+or-false false = refl
+
+and-true : (a b : Bool) → (a && b) ≡ true → (a ≡ true) × (b ≡ true)
+and-true true b h = (refl, h)
+and-true false b h = absurd (false≢true h)
+
+-- what it is to stand in a range
+covers-means : (b l : ℕ) (r : LineRange) → covers b l r ≡ true → (r.block ≡ b) × (r.first ≤ l) × (l < r.first + r.count)
+unfolding covers
+covers-means b l r h =
+    let one = and-true (r.block == b) (nat_le r.first l && nat_lt l (r.first + r.count)) h in
+    let two = and-true (nat_le r.first l) (nat_lt l (r.first + r.count)) one.1 in
+    (eqb-true r.block b one.0, low r.first l two.0, high l (r.first + r.count) two.1)
+  where
+    low : (a b : ℕ) → nat_le a b ≡ true → a ≤ b
+    low a b h = grind (nat_tests, arith)
+
+    high : (a b : ℕ) → nat_lt a b ≡ true → a < b
+    high a b h = grind (nat_tests, arith)
+
+pub in_range-first : (r : LineRange) → 0 < r.count → in_ranges (r ∷ []) r.block r.first ≡ true
+unfolding covers
+in_range-first r some =
+    or-false ((r.block == r.block) && (nat_le r.first r.first && nat_lt r.first (r.first + r.count)))
+    ∙ (ap (λ q. q && (nat_le r.first r.first && nat_lt r.first (r.first + r.count))) (eqb_same r.block) ∙ (ap (λ q. q && nat_lt r.first (r.first + r.count)) (low r.first) ∙ high r.first (r.first + r.count) (omega arith)))
+  where
+    low : (a : ℕ) → nat_le a a ≡ true
+    low a = grind (nat_tests, arith)
+
+    high : (a b : ℕ) → a < b → nat_lt a b ≡ true
+    high a b h = grind (nat_tests, arith)
+
+pub in_range-other : (r : LineRange) (b l : ℕ) → r.block ≢ b → in_ranges (r ∷ []) b l ≡ false
+unfolding covers
+in_range-other r b l other =
+    or-false ((r.block == b) && (nat_le r.first l && nat_lt l (r.first + r.count)))
+    ∙ ap (λ q. q && (nat_le r.first l && nat_lt l (r.first + r.count))) (apart r.block b other)
+  where
+    apart : (a b : ℕ) → a ≢ b → (a == b) ≡ false
+    apart a b h = grind (nat_tests, arith)
+
+-- one range can be parted from a stake that holds a line of another block besides
+pub CanPart-range : (h : Held) (m : Lent) (r : LineRange) → ((l : ℕ) → r.first ≤ l → l < r.first + r.count → IsSome (h r.block l)) → m r.block ≡ None → 0 < r.count → (b l : ℕ) → IsSome (h b l) → r.block ≢ b → CanPart h m (r ∷ [])
+CanPart-range h m r holds away some b l more other = record {
+  within = λ c k e. (let means = covers-means c k r (sym (or-false (covers c k r)) ∙ e) in ap (λ q. is_some (h q k)) (sym means.0) ∙ holds k means.1 means.2);
+  away = λ c k e. ap m (sym (covers-means c k r (sym (or-false (covers c k r)) ∙ e)).0) ∙ away;
+  once = λ c k. one (covers c k r);
+  some = (r.block, (r.first, in_range-first r some));
+  more = (b, (l, (more, in_range-other r b l other)));
+}
+  where
+    one : (t : Bool) → 0 + cond t 1 0 ≤ 1
+    one true = omega arith
+    one false = omega arith

@@ -1,2 +1,7 @@
 pub mod Holding
 pub mod Lines
+pub mod OwnJoin
+pub mod OwnLaws
+pub mod OwnParts
+pub mod OwnSteps
+pub mod OwnWhole

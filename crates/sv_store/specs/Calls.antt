@@ -1,6 +1,6 @@
 -- What each call of a stake asks, and what it gives.
 use Rattle.std.specs.Prelude.{◌≡◌, ◌≤◌, ℕ, List, length, true, false, Some, None, IsSome, IfSome, count_by, replicate}
-use Rattle.sv_form.specs.declared.line_range.LineRange.{LineRange}
+use Rattle.sv_form.specs.declared.owners.LineRange.{LineRange}
 use Rattle.sv_store.specs.Held.{Held, Lent, Origin, HoldsBlock, Apart, line_of, nothing_lent, covers, in_ranges, chosen, rest}
 use Rattle.sv_store.specs.Loan.{Loan}
 

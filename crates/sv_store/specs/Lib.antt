@@ -3,3 +3,4 @@ pub mod Calls
 pub mod Causes
 pub mod Held
 pub mod Loan
+pub mod OwnBlock

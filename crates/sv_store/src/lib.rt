@@ -9,10 +9,15 @@
 
 mod buf;
 mod clients;
+mod own_block;
+mod own_stake;
 mod refusal;
 mod stake;
+#[cfg(test)]
+mod tests;
 
 pub use buf::Buf;
+pub use own_stake::OwnStake;
 pub use refusal::Refusal;
 pub use stake::Stake;
 pub use std::alloc::AllocError as NoMemory;
