@@ -1,6 +1,8 @@
 -- Bytes of readers and writers, where they are known.
-use Rattle.std.proofs.Common.{◌≡◌, ℕ, List, [], ◌++◌, Option, None, Some, IfSome, take, refl, sym, ◌∙◌, append_assoc, append-nil}
+use Rattle.std.proofs.Common.{◌≡◌, ◌≤◌, ◌+◌, ◌-◌, ℕ, List, [], ◌++◌, Option, None, Some, IfSome, take, drop, length, refl, sym, subst, ap, arith, length-drop, ◌∙◌, append_assoc, append-nil}
 use Rattle.std.specs.Option.{option_map}
+use Rattle.std.proofs.Math.Seq.{take-append_seam}
+use Rattle.std.proofs.lemmas.List.{length-take-le, take-append-drop, drop-drop, take_all}
 use Rattle.std.specs.Io.KnownBytes.{Appends, Keeps}
 
 -- one part was appended after the other
@@ -21,3 +23,14 @@ pub front_of : (known now : Option (List ℕ)) (limit most : ℕ) (start got : L
 front_of known None limit most start got same_limit same empty all = tt
 front_of None (Some bytes) limit most start got same_limit same empty all = cc
 front_of (Some before) (Some bytes) limit most start got same_limit same empty all = rw (all, empty, same_limit) (cc)
+
+-- a front that was copied before others, and what is left behind it, are the whole rest
+pub copied_front : (bytes seen copied others : List ℕ) (given count : ℕ) → seen ≡ bytes → copied ≡ take count (take (length seen - given) (drop given seen)) → count ≤ length (drop given bytes)
+    → drop given bytes ≡ take count (copied ++ others) ++ drop (given + count) bytes
+copied_front bytes seen copied others given count whole same within =
+    let short : length (drop given seen) ≤ length seen - given = omega (arith, length-drop given seen) in
+    let part : copied ≡ take count (drop given bytes) = subst (λ xs. copied ≡ take count (drop given xs)) whole (same ∙ ap (take count) (take_all _ _ short)) in
+    let counted : length copied ≡ count = rw part (length-take-le count (drop given bytes) within) in
+    let front : take count (copied ++ others) ≡ copied = subst (λ n. take n (copied ++ others) ≡ copied) counted (take-append_seam copied others) in
+    let back : drop count (drop given bytes) ≡ drop (given + count) bytes = drop-drop count given bytes in
+    rw (front, part, sym back) (sym (take-append-drop count (drop given bytes)))

@@ -26,8 +26,11 @@ pub record HasHostCause {T : Type 0} (old new : ℕ) (result : Result T HostFaul
   pub no_less : old ≤ new
   pub failed : IsErrOf result host.Failed → Rose old new
 
--- a host's count of faults after a call: a failure is one more, want of memory is none
+-- a host's count of faults after a call that answered this: a failure is one more, want of memory is none
+abbrev pub more_faults : ℕ → HostFault → ℕ
+more_faults count host.Failed = counted count 1
+more_faults count host.NoMemory = count
+
 abbrev pub faults_after : {T : Type 0} → ℕ → Result T HostFault → ℕ
 faults_after count (Ok value) = count
-faults_after count (Err host.Failed) = counted count 1
-faults_after count (Err host.NoMemory) = count
+faults_after count (Err fault) = more_faults count fault

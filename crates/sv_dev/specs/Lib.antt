@@ -4,8 +4,10 @@ pub mod MemDiskSeen
 pub mod MemHost
 pub mod MemHostSeen
 pub mod MemSinkSeen
+pub mod MemSourceSeen
 pub mod MirrorDiskSeen
 pub mod Named
+pub mod Names
 pub mod RealHostSeen
 pub mod Told
 pub mod Transfer

@@ -14,18 +14,38 @@ image_under host name = option_map (λ image. image.content.items) (get_by_text 
 abbrev pub fails_under : MemHost → List ℕ → List Fail
 fails_under host name = option_map_or (λ image. image.fails.items) (get_by_text host.images name) []
 
-abbrev pub counts_of : MemHost → HostCounts
-counts_of host = record { fails = host.fails.items; calls = host.calls; faults = host.faults; disk_faults = host.disk_faults }
+-- the text under the name
+abbrev pub text_under : MemHost → List ℕ → Option (List ℕ)
+text_under host name = option_map (λ text. text.items) (get_by_text host.texts name)
 
--- under this name stands what stood there
-pub record SamePlace (old new : MemHost) (name : List ℕ) : Type 0 where
+abbrev pub counts_of : MemHost → HostCounts
+counts_of host = record {
+  fails = host.fails.items;
+  calls = host.calls;
+  faults = host.faults;
+  disk_faults = host.disk_faults;
+  source_faults = host.source_faults;
+  sink_faults = host.sink_faults;
+  asked = host.asked;
+}
+
+-- under this name stands the image that stood there
+pub record SameImage (old new : MemHost) (name : List ℕ) : Type 0 where
   pub image : image_under new name ≡ image_under old name
   pub fails : fails_under new name ≡ fails_under old name
 
--- under each name stands what stood there
-abbrev pub SamePlaces : MemHost → MemHost → Type 0
-SamePlaces old new = (name : List ℕ) → SamePlace old new name
+-- under each name stands the image that stood there
+abbrev pub SameImages : MemHost → MemHost → Type 0
+SameImages old new = (name : List ℕ) → SameImage old new name
 
--- under each other name stands what stood there
-abbrev pub SameOthers : MemHost → MemHost → List ℕ → Type 0
-SameOthers old new name = (other : List ℕ) → other ≢ name → SamePlace old new other
+-- under each other name stands the image that stood there
+abbrev pub SameOtherImages : MemHost → MemHost → List ℕ → Type 0
+SameOtherImages old new name = (other : List ℕ) → other ≢ name → SameImage old new other
+
+-- under each name stands the text that stood there
+abbrev pub SameTexts : MemHost → MemHost → Type 0
+SameTexts old new = (name : List ℕ) → text_under new name ≡ text_under old name
+
+-- under each other name stands the text that stood there
+abbrev pub SameOtherTexts : MemHost → MemHost → List ℕ → Type 0
+SameOtherTexts old new name = (other : List ℕ) → other ≢ name → text_under new other ≡ text_under old other

@@ -10,6 +10,10 @@ pub record HostCounts : Type 0 where
   pub calls : ℕ
   pub faults : ℕ
   pub disk_faults : ℕ
+  pub source_faults : ℕ
+  pub sink_faults : ℕ
+  -- how often a source was asked for
+  pub asked : ℕ
 
 -- does the list name the next of the numbered calls
 abbrev pub fails_next : HostCounts → Bool

@@ -1,5 +1,5 @@
 -- What an object that may not tell its content does to it: what it told stays told.
-use Rattle.std.specs.Prelude.{◌≡◌, ◌≤◌, ◌++◌, ℕ, List, length, take, Option, Result, MatchResult}
+use Rattle.std.specs.Prelude.{◌≡◌, ◌≤◌, ◌++◌, ℕ, List, [], length, take, Option, Result, MatchResult, IfSome}
 use Rattle.std.specs.Option.{option_map}
 use Rattle.sv_dev.specs.declared.fault.Failed.{Failed}
 
@@ -14,3 +14,15 @@ AppendsFront old new bytes = (n : ℕ) × (n ≤ length bytes) × (new ≡ grown
 -- a call that appends all of the bytes, or fails and has appended some front of them
 abbrev pub Writes : Option (List ℕ) → Option (List ℕ) → List ℕ → Result (Unit {0}) Failed → Type 0
 Writes old new bytes result = MatchResult result (λ _. new ≡ grown old bytes) (λ _. AppendsFront old new bytes)
+
+-- what was told begins with these bytes, and loses them
+abbrev pub Loses : Option (List ℕ) → Option (List ℕ) → List ℕ → Type 0
+Loses old new bytes = old ≡ option_map (λ left. bytes ++ left) new
+
+-- a call that gives the first bytes of what is left, or fails and takes none of them
+abbrev pub Takes : Option (List ℕ) → Option (List ℕ) → List ℕ → Result ℕ Failed → Type 0
+Takes old new into result = MatchResult result (λ n. Loses old new (take n into)) (λ _. new ≡ old)
+
+-- nothing is left, where it is told
+abbrev pub IsAtEnd : Option (List ℕ) → Type 0
+IsAtEnd told = IfSome told (λ left. left ≡ [])

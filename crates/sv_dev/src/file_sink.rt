@@ -4,11 +4,12 @@ ghost use Rattle.std.specs.Io.KnownBytes.{Appends};
 ghost use Rattle.sv_dev.specs.Causes.{HasCause, counted};
 ghost use Rattle.sv_dev.specs.Told.{Writes};
 
-use crate::{Failed, Sink};
+use crate::mirror_disk::host_fault;
+use crate::{Failed, HostFault, Sink};
 use std::fs::File;
 use std::io::{ErrorKind, Write};
 use std::marker::Model;
-use std::rt::{Stderr, Stdout};
+use std::rt::{Files, Stderr, Stdout};
 
 #[derive(Drop)]
 enum Stream {
@@ -94,6 +95,25 @@ fn append<W: Write>(to: &mut W, bytes: &[u8]) -> Result<(), Failed>
         done += write_some(to, &bytes[done..])?;
     }
     Err(Failed)
+}
+
+impl FileSink {
+    /// An empty file in place of the one of that name.
+    pub fn create<R: Files<File = File>>(rt: &R, name: &str) -> Result<FileSink, HostFault>
+        ensures { IfOk result (λ s. s ≡ 0) }
+    {
+        match File::create(rt, name) {
+            Ok(file) => Ok(FileSink::from(file)),
+            Err(error) => Err(host_fault(&error)),
+        }
+    }
+
+    /// How many calls have failed.
+    pub(crate) fn faults(&self) -> u64
+        ensures { result ≡ self.now }
+    {
+        self.faults
+    }
 }
 
 impl Sink for FileSink {

@@ -80,6 +80,13 @@ impl MemDisk {
     {
         self.faults
     }
+
+    /// The bytes of the device.
+    pub(crate) fn into_content(self) -> Vec<u8>
+        ensures { result.items ≡ self.content }
+    {
+        self.content
+    }
 }
 
 impl Fail {

@@ -55,6 +55,20 @@ impl MemSink {
     {
         self.written.as_slice()
     }
+
+    /// How many calls have failed.
+    pub(crate) fn faults(&self) -> u64
+        ensures { result ≡ self.now.faults }
+    {
+        self.faults
+    }
+
+    /// All bytes that it took.
+    pub(crate) fn into_written(self) -> Vec<u8>
+        ensures { result.items ≡ self.written }
+    {
+        self.written
+    }
 }
 
 impl Sink for MemSink {

@@ -1,16 +1,16 @@
 // The block device over a real file.
-ghost use Rattle.std.specs.Prelude.{◌≡◌, ◌+◌, ◌≤◌, length, take, slice_range, IfOk, IfSome, IfErr, IsOk, OnOk, OnErr};
+ghost use Rattle.std.specs.Prelude.{◌≡◌, ◌+◌, ◌≤◌, length, take, slice_range, replicate, IfOk, IfSome, IfErr, IsOk, OnOk, OnErr};
 ghost use Rattle.sv_dev.specs.Causes.{HasCause, counted};
 ghost use Rattle.sv_dev.specs.Transfer.{CanTransfer, IsTorn, overwritten};
 
 use crate::{Disk, Failed, HostFault};
 use std::alloc::Global;
 use std::fs::{File, OpenOptions};
-use std::io;
 use std::io::{ErrorKind, Read};
 use std::marker::Model;
 use std::os::unix::fs::FileExt;
 use std::rt::Files;
+use std::{fs, io};
 
 // The most bytes of a file that are read: those of the greatest image, 64 MiB, and one more, by which a longer file
 // is known.
@@ -22,6 +22,7 @@ const MOST_BYTES: u64 = 67_108_865;
 #[derive(Drop)]
 pub struct MirrorDisk {
     file: File,
+    name: String,
     mirror: Vec<u8>,
     reads: u64,
     writes: u64,
@@ -52,7 +53,7 @@ fn read_front<R: Read>(alloc: Global, reader: &mut R, size: u64) -> io::Result<V
     Ok(front)
 }
 
-fn host_fault(error: &io::Error) -> HostFault {
+pub(crate) fn host_fault(error: &io::Error) -> HostFault {
     match error.kind() {
         ErrorKind::OutOfMemory => HostFault::NoMemory,
         _ => HostFault::Failed,
@@ -68,14 +69,51 @@ impl MirrorDisk {
     ) -> Result<MirrorDisk, HostFault>
         ensures { IfOk result (λ d. d ≡ record { content = d.content; reads = 0; writes = 0; faults = 0 }) }
     {
+        let own_name = String::from_str(alloc, name)?;
         match read_file(rt, alloc, name) {
             Ok((file, mirror)) => Ok(MirrorDisk {
                 file,
+                name: own_name,
                 mirror,
                 reads: 0,
                 writes: 0,
                 faults: 0,
             }),
+            Err(error) => Err(host_fault(&error)),
+        }
+    }
+
+    /// Makes a file of zero bytes in place of the one of that name.
+    pub fn create<R: Files<File = File>>(
+        rt: &R,
+        alloc: Global,
+        name: &str,
+        length: u64,
+    ) -> Result<MirrorDisk, HostFault>
+        ensures { IfOk result (λ d. d ≡ record { content = replicate length 0; reads = 0; writes = 0; faults = 0 }) }
+    {
+        let own_name = String::from_str(alloc, name)?;
+        let mirror = vec![in alloc; 0; length as usize]?;
+        match zero_file(rt, name, length) {
+            Ok(file) => Ok(MirrorDisk {
+                file,
+                name: own_name,
+                mirror,
+                reads: 0,
+                writes: 0,
+                faults: 0,
+            }),
+            Err(error) => Err(host_fault(&error)),
+        }
+    }
+
+    /// Puts the content into the file of that name. The file that it was made for has it already.
+    pub(crate) fn save<R: Files<File = File>>(self, rt: &R, name: &str) -> Result<(), HostFault> {
+        if self.name.as_str() == name {
+            return Ok(());
+        }
+        match fs::write(rt, name, self.mirror.as_slice()) {
+            Ok(()) => Ok(()),
             Err(error) => Err(host_fault(&error)),
         }
     }
@@ -86,6 +124,13 @@ impl MirrorDisk {
     {
         self.faults
     }
+}
+
+// A file of that many zero bytes, in place of what stood under the name.
+fn zero_file<R: Files<File = File>>(rt: &R, name: &str, length: u64) -> io::Result<File> {
+    let file = File::create(rt, name)?;
+    file.set_len(length)?;
+    Ok(file)
 }
 
 fn read_file<R: Files<File = File>>(

@@ -1,7 +1,7 @@
 // Worked rows over each form of the outside.
 use super::{
-    Access, Disk, Fail, Failed, FileSink, Host, HostFault, MemDisk, MemHost, MemSink, RealHost,
-    Sink,
+    Access, Disk, Fail, Failed, FileSink, Host, HostFault, MemDisk, MemHost, MemSink, MemSource,
+    RealHost, Sink, Source,
 };
 use std::alloc::{AllocError, Global};
 use std::fs;
@@ -173,5 +173,107 @@ fn real_sinks(rt: HostRuntime) -> Result<(), TestFail> {
     text.extend_from_slice(b"end")?;
     assert!(rt; fs::read(&rt, "text")?.as_slice() == text.as_slice());
     fs::remove_file(&rt, "text")?;
+    Ok(())
+}
+
+// Reads up to four bytes: as many as came, and what they are.
+fn read_four<S: Source>(source: &mut S) -> Result<(usize, [u8; 4]), Failed> {
+    let mut bytes = [0; 4];
+    let count = source.read(&mut bytes)?;
+    Ok((count, bytes))
+}
+
+#[test]
+fn sources_in_memory(rt: HostRuntime) -> Result<(), TestFail> {
+    let alloc = rt.alloc();
+    let mut source = MemSource::new(vec![in alloc; 1, 2, 3, 4, 5]?, vec![in alloc; 2]?);
+    assert_eq!(rt; source.read(&mut []), Ok(0));
+    assert_eq!(rt; read_four(&mut source), Err(Failed));
+    assert_eq!(rt; read_four(&mut source), Ok((4, [1, 2, 3, 4])));
+    assert_eq!(rt; read_four(&mut source), Ok((1, [5, 0, 0, 0])));
+    assert_eq!(rt; read_four(&mut source), Ok((0, [0; 4])));
+    Ok(())
+}
+
+#[test]
+fn texts_in_memory(rt: HostRuntime) -> Result<(), TestFail> {
+    let alloc = rt.alloc();
+    let mut host = MemHost::new(vec![in alloc; 4]?);
+    assert!(rt; host.source(&rt, alloc, "t").err() == Some(HostFault::Failed));
+    let mut sink = host.sink(&rt, alloc, "t").ok().ok_or("second call")?;
+    assert_eq!(rt; host.text("t"), Some([].as_slice()));
+    assert_eq!(rt; sink.write(b"abcde"), Ok(()));
+    assert_eq!(rt; host.keep_text(&rt, alloc, "t", sink), Ok(()));
+    assert_eq!(rt; host.text("t"), Some(b"abcde".as_slice()));
+    assert!(rt; host.sink(&rt, alloc, "t").err() == Some(HostFault::Failed));
+    let mut source = host.source(&rt, alloc, "t").ok().ok_or("fifth call")?;
+    assert_eq!(rt; read_four(&mut source), Ok((4, *b"abcd")));
+    host.end_source(source);
+    host.put_text("t", vec![in alloc; 9]?)?;
+    assert_eq!(rt; host.text("t"), Some([9].as_slice()));
+    assert_eq!(rt; host.text("u"), None);
+    Ok(())
+}
+
+#[test]
+fn kept_disks_in_memory(rt: HostRuntime) -> Result<(), TestFail> {
+    let alloc = rt.alloc();
+    let mut host = MemHost::new(Vec::new(alloc));
+    host.put_image(
+        "e",
+        vec![in alloc; 3; 512]?,
+        vec![in alloc; Fail::Write(1)]?,
+    )?;
+    let mut disk = host.fresh(&rt, alloc, "e", 1024).ok().ok_or("fresh")?;
+    assert_eq!(rt; host.image("e"), Some([0; 1024].as_slice()));
+    assert_eq!(rt; write_byte(&rt, &mut disk, 512, 8), Err(Failed));
+    assert_eq!(rt; write_byte(&rt, &mut disk, 512, 8), Ok(()));
+    assert_eq!(rt; host.image("e"), Some([0; 1024].as_slice()));
+    assert_eq!(rt; host.keep(&rt, alloc, "e", disk), Ok(()));
+    let kept = host.image("e").ok_or("image")?;
+    assert!(rt; kept.len() == 1024 && kept[511] == 0 && kept[512] == 8);
+    let again = host.disk(&rt, alloc, "e").ok().ok_or("disk")?;
+    assert_eq!(rt; host.keep(&rt, alloc, "f", again), Ok(()));
+    assert!(rt; host.image("f") == host.image("e"));
+    Ok(())
+}
+
+#[test]
+fn real_texts(rt: HostRuntime) -> Result<(), TestFail> {
+    let alloc = rt.alloc();
+    let mut host = RealHost::new();
+    assert!(rt; host.source(&rt, alloc, "absent").err() == Some(HostFault::Failed));
+    let mut sink = host.sink(&rt, alloc, "source").ok().ok_or("sink")?;
+    assert_eq!(rt; sink.write(b"abcde"), Ok(()));
+    assert_eq!(rt; host.keep_text(&rt, alloc, "source", sink), Ok(()));
+    assert!(rt; fs::read(&rt, "source")?.as_slice() == b"abcde".as_slice());
+    let mut source = host.source(&rt, alloc, "source").ok().ok_or("source")?;
+    assert_eq!(rt; read_four(&mut source), Ok((4, *b"abcd")));
+    assert_eq!(rt; read_four(&mut source), Ok((1, *b"e\0\0\0")));
+    assert_eq!(rt; read_four(&mut source), Ok((0, [0; 4])));
+    host.end_source(source);
+    let sink = host.sink(&rt, alloc, "source").ok().ok_or("sink again")?;
+    host.end_sink(sink);
+    assert!(rt; fs::read(&rt, "source")?.is_empty());
+    fs::remove_file(&rt, "source")?;
+    Ok(())
+}
+
+#[test]
+fn real_fresh_disks(rt: HostRuntime) -> Result<(), TestFail> {
+    let alloc = rt.alloc();
+    let mut host = RealHost::new();
+    fs::write(&rt, "fresh", b"old bytes, and more of them")?;
+    let mut disk = host.fresh(&rt, alloc, "fresh", 1024).ok().ok_or("fresh")?;
+    assert!(rt; fs::read(&rt, "fresh")?.as_slice() == [0; 1024].as_slice());
+    assert_eq!(rt; write_byte(&rt, &mut disk, 512, 8), Ok(()));
+    assert_eq!(rt; host.keep(&rt, alloc, "fresh", disk), Ok(()));
+    let disk = host.disk(&rt, alloc, "fresh").ok().ok_or("disk")?;
+    assert_eq!(rt; host.keep(&rt, alloc, "copy", disk), Ok(()));
+    let kept = fs::read(&rt, "fresh")?;
+    assert!(rt; kept.len() == 1024 && kept[511] == 0 && kept[512] == 8);
+    assert!(rt; fs::read(&rt, "copy")?.as_slice() == kept.as_slice());
+    fs::remove_file(&rt, "fresh")?;
+    fs::remove_file(&rt, "copy")?;
     Ok(())
 }

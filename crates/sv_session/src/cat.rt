@@ -39,6 +39,7 @@ pub fn cat_image<R: Files<File = File>, H: Host, O: Sink>(
         × Noted (O.written note.old) (O.written note.new) (O.faults note.old) (O.faults note.new) (line_of stop) }
     ensures quiet { result ≡ 0 → O.written note.new ≡ O.written note.old }
     ensures images { H.images host.new ≡ H.images host.old }
+    ensures texts { H.texts host.new ≡ H.texts host.old }
 {
     match cat(rt, alloc, host, image, inode, out) {
         Ok(()) => 0,
@@ -60,6 +61,7 @@ fn cat<R: Files<File = File>, H: Host, O: Sink>(
         (Rose (H.faults host.old) (H.faults host.new)) (Rose (O.faults out.old) (O.faults out.new))) }
     ensures left { IfErr result (LeavesSink (OnImage (H.images host.old) image.now) inode (O.written out.old) (O.written out.new)) }
     ensures images { H.images host.new ≡ H.images host.old }
+    ensures texts { H.texts host.new ≡ H.texts host.old }
 {
     let mut disk = host.disk(rt, alloc, image)?;
     let answer = cat_disk(alloc, &mut disk, inode, out);

@@ -36,6 +36,7 @@ pub fn svfs<R: Files<File = File> + Threads + Wait, H: Host, W: Watch, O: Sink>(
         (Rose (O.faults out.old) (O.faults out.new)) (O.written out.old) (O.written out.new)
         (Noted (O.written note.old) (O.written note.new) (O.faults note.old) (O.faults note.new)) result command }
     ensures images { H.images host.new ≡ H.images host.old }
+    ensures texts { H.texts host.new ≡ H.texts host.old }
 {
     match read_words(words) {
         None => tell(&Stop::Words, note),
