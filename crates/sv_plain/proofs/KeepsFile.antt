@@ -16,16 +16,16 @@ use Rattle.sv_plain.proofs.Counts.{differs, same_key}
 use Rattle.sv_plain.proofs.KeepsRemoval.{Nodes, above-live}
 use Rattle.sv_plain.proofs.KeepsPromises.{Promises}
 
-dead_file : (node : Node) → node.kind ≡ File → is_live node ≡ false
+pub dead_file : (node : Node) → node.kind ≡ File → is_live node ≡ false
 dead_file node e = ap (λ k. is_dir k && nat_lt 0 node.links) e
 
-get_other : (nodes : Nodes) (i j : ℕ) (new : Node) → j ≢ i → map.get (map.insert nodes i new) j ≡ map.get nodes j
+pub get_other : (nodes : Nodes) (i j : ℕ) (new : Node) → j ≢ i → map.get (map.insert nodes i new) j ≡ map.get nodes j
 get_other nodes i j new ne = map.get-insert nat_cmp_total nodes i new j ∙ ap (λ b. cond b (Some new) (map.get nodes j)) (differs j i ne)
 
-get_new : (nodes : Nodes) (i : ℕ) (new : Node) → map.get (map.insert nodes i new) i ≡ Some new
+pub get_new : (nodes : Nodes) (i : ℕ) (new : Node) → map.get (map.insert nodes i new) i ≡ Some new
 get_new nodes i new = map.get-insert nat_cmp_total nodes i new i ∙ ap (λ b. cond b (Some new) (map.get nodes i)) (same_key i)
 
-still_some : (nodes : Nodes) (i j : ℕ) (new : Node) → IsSome (map.get nodes j) → IsSome (map.get (map.insert nodes i new) j)
+pub still_some : (nodes : Nodes) (i j : ℕ) (new : Node) → IsSome (map.get nodes j) → IsSome (map.get (map.insert nodes i new) j)
 still_some nodes i j new there =
     subst IsSome (sym (map.get-insert nat_cmp_total nodes i new j))
     (elim (eq_by_cmp nat_cmp j i) as (λ b. IsSome (cond b (Some new) (map.get nodes j))) [ true ↦ refl | false ↦ there ])

@@ -36,7 +36,7 @@ pub pending-remove : (pending : Promises) (p j : ℕ) → pending_on (map.remove
 unfolding pending_on
 pending-remove pending p j = total-remove nat_cmp_total nat_cmp-IsAntisymmetric (λ (_ : ℕ) (k : ℕ). one_if (k == j)) pending p
 
-no_item : {A : Type 0} (o : Option A) → is_some o ≡ false → o ≡ None
+pub no_item : {A : Type 0} (o : Option A) → is_some o ≡ false → o ≡ None
 no_item None e = refl
 no_item (Some x) e = cc
 
@@ -46,7 +46,7 @@ file_kind : (k : Kind) → is_dir k ≡ false → k ≡ File
 file_kind File e = refl
 file_kind Dir e = cc
 
-used-links : (block : ℕ) (f : ℕ → ℕ) (node : Node) → used block (with_links f node) ≡ used block node
+pub used-links : (block : ℕ) (f : ℕ → ℕ) (node : Node) → used block (with_links f node) ≡ used block node
 unfolding used
 used-links block f node = refl
 
@@ -60,19 +60,19 @@ linked_node : (block greatest inodes i : ℕ) (f : ℕ → ℕ) (node : Node) �
 linked_node block greatest inodes i f node h = record { least = h.least; most = h.most; mode = h.mode; size = h.size; pages = h.pages }
 
 -- what is there is changed
-changed-there : (nodes : Nodes) (i : ℕ) (f : Node → Node) (node : Node) → map.get nodes i ≡ Some node → map.insert nodes i (f node) ≡ changed nodes i f
+pub changed-there : (nodes : Nodes) (i : ℕ) (f : Node → Node) (node : Node) → map.get nodes i ≡ Some node → map.insert nodes i (f node) ≡ changed nodes i f
 changed-there nodes i f node there = ap (λ o. insert_some nodes i (option_map f o)) (sym there)
 
 fewer_links : (n : ℕ) → not (n == 1000) ≡ true → n ≤ 1000 → n + 1 ≤ 1000
 fewer_links n e h = grind (arith, nat_tests)
 
 -- the node of an inode to which a process has a reference
-referred : (fs : Fs) (p i : ℕ) → IsWhole fs → has_reference fs p i ≡ true → (node : Node) × (map.get fs.nodes i ≡ Some node)
+pub referred : (fs : Fs) (p i : ℕ) → IsWhole fs → has_reference fs p i ≡ true → (node : Node) × (map.get fs.nodes i ≡ Some node)
 referred fs p i w has =
     let one = held (map.get fs.references (p, i)) has in
     some_item (map.get fs.nodes i) (w.references p i one.0 one.1).1
 
-file_of : (fs : Fs) (i : ℕ) (node : Node) → map.get fs.nodes i ≡ Some node → is_directory fs i ≡ false → node.kind ≡ File
+pub file_of : (fs : Fs) (i : ℕ) (node : Node) → map.get fs.nodes i ≡ Some node → is_directory fs i ≡ false → node.kind ≡ File
 file_of fs i node there plain = file_kind node.kind (ap (λ o. some_and o (λ (n : Node). is_dir n.kind)) (sym there) ∙ plain)
 
 -- ---- AddLink
@@ -101,7 +101,7 @@ keeps-add_link fs p i _ w has free right = w
 
 -- ---- SubLink
 
-pending_is : (o : Option ℕ) (i : ℕ) → some_and o (λ k. k == i) ≡ true → o ≡ Some i
+pub pending_is : (o : Option ℕ) (i : ℕ) → some_and o (λ k. k == i) ≡ true → o ≡ Some i
 pending_is None i e = absurd (false≢true e)
 pending_is (Some k) i e = ap Some (eqb-true k i e)
 

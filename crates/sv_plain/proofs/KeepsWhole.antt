@@ -32,11 +32,11 @@ pub passes : {X : Type 0} (o : Option X) (test : X → Bool) → some_and o test
 passes None test e = absurd (false≢true e)
 passes (Some x) test e = (x, refl, e)
 
-found : (f : ℕ → ℕ) (o : Option ℕ) (c : ℕ) → option_map f o ≡ Some c → (j : ℕ) × (o ≡ Some j) × (f j ≡ c)
+pub found : (f : ℕ → ℕ) (o : Option ℕ) (c : ℕ) → option_map f o ≡ Some c → (j : ℕ) × (o ≡ Some j) × (f j ≡ c)
 found f None c e = cc
 found f (Some j) c e = (j, refl, cc)
 
-found_in : (f : Node → Option ℕ) (o : Option Node) (c : ℕ) → option_and_then f o ≡ Some c → (n : Node) × (o ≡ Some n) × (f n ≡ Some c)
+pub found_in : (f : Node → Option ℕ) (o : Option Node) (c : ℕ) → option_and_then f o ≡ Some c → (n : Node) × (o ≡ Some n) × (f n ≡ Some c)
 found_in f None c e = cc
 found_in f (Some n) c e = (n, refl, e)
 
@@ -54,11 +54,11 @@ alive : (b : Bool) (n : ℕ) → b ≡ true → not (n == 0) ≡ true → (b && 
 alive true n e h = grind (arith, nat_tests)
 alive false n e h = cc
 
-occupied : (n : ℕ) → not (n == 0) ≡ true → n ≢ 0
+pub occupied : (n : ℕ) → not (n == 0) ≡ true → n ≢ 0
 occupied n e s = false≢true (sym (ap (λ m. not (m == 0)) s) ∙ e)
 
 -- a directory that is open to names has links
-live-of : (fs : Fs) (d : ℕ) (node : Node) → map.get fs.nodes d ≡ Some node → is_open_to_names fs d ≡ true → is_live node ≡ true
+pub live-of : (fs : Fs) (d : ℕ) (node : Node) → map.get fs.nodes d ≡ Some node → is_open_to_names fs d ≡ true → is_live node ≡ true
 live-of fs d node there opened =
     let dir : is_dir node.kind ≡ true = ap (λ o. some_and o (λ (n : Node). is_dir n.kind)) (sym there) ∙ and_left (is_directory fs d) (not (links_of fs d == 0)) opened in
     let links : not (node.links == 0) ≡ true = ap (λ o. not (at_or_0 (λ (n : Node). n.links) o == 0)) (sym there) ∙ and_right (is_directory fs d) (not (links_of fs d == 0)) opened in

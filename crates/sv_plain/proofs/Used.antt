@@ -15,7 +15,7 @@ use Rattle.sv_plain.specs.Totals.{at_or_0}
 use Rattle.sv_plain.specs.Fs.{used_by_all}
 use Rattle.sv_plain.proofs.Totals.{total-insert}
 
-turned : (a b c : Bool) → (a || (b || c)) ≡ (b || (a || c))
+pub turned : (a b c : Bool) → (a || (b || c)) ≡ (b || (a || c))
 turned true true c = refl
 turned true false c = refl
 turned false b c = refl
@@ -30,7 +30,7 @@ doubled false b = refl
 
 -- ---- with_blocks
 
-contains-with_blocks : (s : set.FinSet pair_cmp) (bs : List (ℕ × ℕ)) (q : ℕ × ℕ) → set.contains (with_blocks s bs) q ≡ (list_any (eq_by_cmp pair_cmp q) bs || set.contains s q)
+pub contains-with_blocks : (s : set.FinSet pair_cmp) (bs : List (ℕ × ℕ)) (q : ℕ × ℕ) → set.contains (with_blocks s bs) q ≡ (list_any (eq_by_cmp pair_cmp q) bs || set.contains s q)
 contains-with_blocks s [] q = refl
 contains-with_blocks s (b ∷ bs) q =
     contains-with_blocks (set.insert s b) bs q
@@ -52,7 +52,7 @@ module _ (f : ℕ → List (ℕ × ℕ)) (t : ℕ × ℕ → Bool) where
   any-append [] ys = refl
   any-append (x ∷ xs) ys = ap (λ c. t x || c) (any-append xs ys) ∙ grouped (t x) (list_any t xs) (list_any t ys)
 
-  any-cons : (k : ℕ) (ks : List ℕ) → list_any t (flat_map f (k ∷ ks)) ≡ (list_any t (f k) || list_any t (flat_map f ks))
+  pub any-cons : (k : ℕ) (ks : List ℕ) → list_any t (flat_map f (k ∷ ks)) ≡ (list_any t (f k) || list_any t (flat_map f ks))
   any-cons k ks = any-append (f k) (flat_map f ks)
 
   any-put : {X : Type 0} (k : ℕ) (v : X) (es : List (ℕ × X))

@@ -11,6 +11,7 @@ pub fn steps_keep_whole()
     ensures dropped { (ino : ℕ) → KeepsWhole (op.Drop ino) }
     ensures add_link { (ino : ℕ) → KeepsWhole (op.AddLink ino) }
     ensures sub_link { (ino : ℕ) → KeepsWhole (op.SubLink ino) }
+    ensures unlink { (dir : ℕ) (name : List ℕ) → KeepsWhole (op.Unlink dir name) }
     ensures open { (ino : ℕ) (mode : Mode) → KeepsWhole (op.OpenFile ino mode) }
     ensures close { (file : ℕ) → KeepsWhole (op.CloseFile file) }
     ensures dup { (file : ℕ) → KeepsWhole (op.DupFile file) }

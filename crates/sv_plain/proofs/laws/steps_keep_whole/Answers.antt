@@ -1,8 +1,10 @@
 use Rattle.std.proofs.Common.{sym, subst}
 use Rattle.sv_plain.specs.Whole.{IsWhole}
 use Rattle.sv_plain.specs.Names.{has_reference}
-use Rattle.sv_plain.proofs.Got.{and_left, and_right}
+use Rattle.sv_plain.specs.Step.{is_dots}
+use Rattle.sv_plain.proofs.Got.{and_left, and_right, not_true}
 use Rattle.sv_plain.proofs.KeepsLinks.{keeps-add_link, keeps-sub_link, keeps-trunc}
+use Rattle.sv_plain.proofs.KeepsNames.{keeps-unlink}
 use Rattle.sv_plain.proofs.KeepsWhole.{keeps-look, keeps-drop, keeps-open, keeps-close, keeps-dup, keeps-read, keeps-seek, keeps-promised, keeps-forgone}
 use Rattle.sv_plain.proofs.KeepsPurge.{keeps-purge}
 use Rattle.sv_plain.proofs.laws.steps_keep_whole.Goals as goal
@@ -18,6 +20,9 @@ returns-clause-add_link c = λ ino fs after p reply w s. subst IsWhole (sym s.ch
 
 pub returns-clause-sub_link : goal.returns-clause-sub_link
 returns-clause-sub_link c = λ ino fs after p reply w s. subst IsWhole (sym s.changed) (keeps-sub_link fs p ino reply w (and_right (has_reference fs p ino) _ s.allowed))
+
+pub returns-clause-unlink : goal.returns-clause-unlink
+returns-clause-unlink c = λ dir name fs after p reply w s. subst IsWhole (sym s.changed) (keeps-unlink fs p dir name reply w (not_true (is_dots name) (and_right (has_reference fs p dir) _ s.allowed)) s.right)
 
 pub returns-clause-trunc : goal.returns-clause-trunc
 returns-clause-trunc c = λ ino fs after p reply w s. subst IsWhole (sym s.changed) (keeps-trunc fs p ino reply w s.allowed s.right)
