@@ -157,7 +157,7 @@ module _ (block greatest inodes d : ℕ) (node : Node) (j x y : ℕ) (ys : List 
   second-new = inode-other block node j x y ys links some whole len 1 (λ s. absurd (omega (arith, s, third)))
 
   -- an entry past the end names nothing
-  empty-past : entry_count node ≤ j → entry_inode block node j ≡ 0
+  pub empty-past : entry_count node ≤ j → entry_inode block node j ≡ 0
   unfolding entry_inode
   empty-past far =
       let first : byte_of block node (16 * j) ≡ 0 = past_size block greatest inodes d node n (16 * j) (omega (arith, far, dir.entries)) in

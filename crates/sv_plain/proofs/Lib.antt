@@ -1,11 +1,14 @@
 pub mod Beginnings
 pub mod Counts
 pub mod DirectoryPut
+pub mod EntriesFew
 pub mod EntryPut
+pub mod EntryRoom
 pub mod Got
 pub mod Holders
 pub mod Kept
 pub mod KeepsDirectory
+pub mod KeepsEntered
 pub mod KeepsFile
 pub mod KeepsFiles
 pub mod KeepsLinks

@@ -1,15 +1,17 @@
 // What holds of the steps themselves, without code.
 ghost use Rattle.std.specs.Prelude.{ℕ, ℤ, List};
+ghost use Rattle.sv_form.specs.Name.{IsName};
 ghost use Rattle.sv_plain.specs.declared.mode.Mode.{Mode};
 ghost use Rattle.sv_plain.specs.declared.need.Need.{Need};
 ghost use Rattle.sv_plain.specs.declared.op.Op.TheVariants as op;
-ghost use Rattle.sv_plain.specs.Laws.{KeepsWhole};
+ghost use Rattle.sv_plain.specs.Laws.{KeepsWhole, KeepsWholeWithRoom};
 
 /// A step of these ops leaves a whole file system whole, whichever reply it has.
 pub fn steps_keep_whole()
     ensures look { (dir : ℕ) (name : List ℕ) → KeepsWhole (op.Look dir name) }
     ensures dropped { (ino : ℕ) → KeepsWhole (op.Drop ino) }
     ensures add_link { (ino : ℕ) → KeepsWhole (op.AddLink ino) }
+    ensures enter { (dir : ℕ) (name : List ℕ) (ino : ℕ) → IsName name → KeepsWholeWithRoom (op.Enter dir name ino) }
     ensures sub_link { (ino : ℕ) → KeepsWhole (op.SubLink ino) }
     ensures unlink { (dir : ℕ) (name : List ℕ) → KeepsWhole (op.Unlink dir name) }
     ensures open { (ino : ℕ) (mode : Mode) → KeepsWhole (op.OpenFile ino mode) }
