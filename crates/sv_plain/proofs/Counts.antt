@@ -59,11 +59,11 @@ count_all p a (suc n) h =
 
 -- ---- the numbers of a range that are no keys of a map
 
-left : (a b : Bool) → T (a && b) → T a
+pub left : (a b : Bool) → T (a && b) → T a
 left true b p = tt
 left false b p = p
 
-right : (a b : Bool) → T (a && b) → T b
+pub right : (a b : Bool) → T (a && b) → T b
 right true b p = p
 right false b p = absurd p
 
@@ -72,7 +72,7 @@ not_tied Less p = refl
 not_tied Equal p = absurd p
 not_tied Greater p = absurd p
 
-none_after : {X : Type 0} (k : ℕ) (es : List (ℕ × X)) → T (below_all nat_cmp k es) → find nat_cmp k es ≡ None
+pub none_after : {X : Type 0} (k : ℕ) (es : List (ℕ × X)) → T (below_all nat_cmp k es) → find nat_cmp k es ≡ None
 none_after k [] h = refl
 none_after k (e ∷ es) h = ap (λ b. cond b (Some e.1) (find nat_cmp k es)) (not_tied (nat_cmp k e.0) (left _ _ h)) ∙ none_after k es (right _ _ h)
 
@@ -117,7 +117,7 @@ module _ {X : Type 0} where
       (λ i. count_by (λ k. not (found k i)) (range_with_len a n) + map.len-entries m i)
       ∙ missing a n (map.entries m) (map.entries_sorted m) (λ i some. within i (found i ∙ some))
 
-never : (b : Bool) → (b && false) ≡ false
+pub never : (b : Bool) → (b && false) ≡ false
 never true = refl
 never false = refl
 

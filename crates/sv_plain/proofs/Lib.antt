@@ -7,6 +7,9 @@ pub mod EntryRoom
 pub mod Got
 pub mod Holders
 pub mod Kept
+pub mod KeepsAdded
+pub mod KeepsCreate
+pub mod KeepsCreated
 pub mod KeepsDirectory
 pub mod KeepsEntered
 pub mod KeepsFile
