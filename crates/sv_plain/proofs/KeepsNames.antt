@@ -40,20 +40,24 @@ some_bytes fs w = (let s = w.sized.some in omega (arith, s))
 
 module _ (fs : Fs) (d : ℕ) (node : Node) (j x y : ℕ) (ys : List ℕ) (w : IsWhole fs) (there : map.get fs.nodes d ≡ Some node) (live : is_live node ≡ true)
     (len : length ys ≡ 14) (third : 2 ≤ j) (within : j ≤ entry_count node) (fits : 16 * j + 16 ≤ fs.greatest) where
-  abbrev new : Node
-  new = with_put fs.block node j (x ∷ y ∷ ys) node.links
+  abbrev with : ℕ → Node
+  with links = with_put fs.block node j (x ∷ y ∷ ys) links
 
-  pub named-put : (entry_inode fs.block new j ≢ 0 → IsSome (map.get fs.nodes (entry_inode fs.block new j)))
-      → (k : ℕ) → k < entry_count new → entry_inode fs.block new k ≢ 0 → IsSome (map.get fs.nodes (entry_inode fs.block new k))
-  named-put here k low some =
+  abbrev new : Node
+  new = with node.links
+
+  -- what holds of all numbers of nodes, and of the inode that was entered, holds of the inode in each entry
+  pub named-with : (links : ℕ) (Q : ℕ → Type 0) → (entry_inode fs.block (with links) j ≢ 0 → Q (entry_inode fs.block (with links) j)) → ((i : ℕ) → IsSome (map.get fs.nodes i) → Q i)
+      → (k : ℕ) → k < entry_count (with links) → entry_inode fs.block (with links) k ≢ 0 → Q (entry_inode fs.block (with links) k)
+  named-with links Q here of_nodes k low some =
       let block_some = some_bytes fs w in
       let dir = w.directories d node there live in
       elim (cases_eq k j) [
-        | inl is ↦ subst (λ (l : ℕ). entry_inode fs.block new l ≢ 0 → IsSome (map.get fs.nodes (entry_inode fs.block new l))) (sym is) here some
+        | inl is ↦ subst (λ (l : ℕ). entry_inode fs.block (with links) l ≢ 0 → Q (entry_inode fs.block (with links) l)) (sym is) here some
         | inr ne ↦
-            (let same = inode-other fs.block node j x y ys node.links block_some w.sized.entries len k ne in
-            subst (λ (i : ℕ). IsSome (map.get fs.nodes i)) (sym same)
-            (w.named d node there live k (earlier fs.block fs.greatest fs.inodes d node j x y ys node.links block_some w.sized.entries len (w.nodes d node there) dir third within k ne low) (λ s. some (same ∙ s))))
+            (let same = inode-other fs.block node j x y ys links block_some w.sized.entries len k ne in
+            subst Q (sym same)
+            (of_nodes (entry_inode fs.block node k) (w.named d node there live k (earlier fs.block fs.greatest fs.inodes d node j x y ys links block_some w.sized.entries len (w.nodes d node there) dir third within k ne low) (λ s. some (same ∙ s)))))
       ]
 
   pub keeps-put : (pending promises : Promises) → IsEntryAt fs.block new j
@@ -74,7 +78,7 @@ module _ (fs : Fs) (d : ℕ) (node : Node) (j x y : ℕ) (ys : List ℕ) (w : Is
         links = refl;
         node = node-new fs.block fs.greatest fs.inodes d node j x y ys node.links block_some w.sized.entries len n dir third within fits;
         directory = directory-new fs.block fs.greatest fs.inodes d node j x y ys node.links block_some w.sized.entries len n dir third within here apart;
-        named = named-put named;
+        named = named-with node.links (λ i. IsSome (map.get fs.nodes i)) named (λ i some. some);
         second = second-new fs.block fs.greatest fs.inodes d node j x y ys node.links block_some w.sized.entries len n dir third within;
         counts = counts-new fs.block fs.greatest fs.inodes d node j x y ys node.links block_some w.sized.entries len n dir third within;
         no_directory = no_directory;
@@ -84,11 +88,11 @@ module _ (fs : Fs) (d : ℕ) (node : Node) (j x y : ℕ) (ys : List ℕ) (w : Is
       })
 
   -- an entry below the size lies in a page that is there
-  pub used-below : j < entry_count node → used fs.block new ≡ used fs.block node
-  used-below low =
+  pub used-below : (links : ℕ) → j < entry_count node → used fs.block (with links) ≡ used fs.block node
+  used-below links low =
       let page : ℕ = 16 * j / fs.block in
       let below : page * fs.block ≤ 16 * j = div-mul-le_self (16 * j) fs.block in
-      used-written fs.block node new page _ refl ((w.directories d node there live).present page (omega (arith, below, low)))
+      used-written fs.block node (with links) page _ refl ((w.directories d node there live).present page (omega (arith, below, low)))
 
 -- ---- a process without a pending link
 
@@ -162,7 +166,7 @@ unlinked fs p d i j name node x w there live it file place names no_dots room =
       | inl h ↦ (x, ap (map.get fs.nodes) h.1 ∙ it, file)
       | inr h ↦ w.pending r k h
     ])
-    (let same = used-below fs d node j 0 0 (replicate 14 0) w there live refl third within (omega (arith, n.size, at.0)) at.0 in
+    (let same = used-below fs d node j 0 0 (replicate 14 0) w there live refl third within (omega (arith, n.size, at.0)) node.links at.0 in
     let before : at_or_0 (used fs.block) (map.get fs.nodes d) ≡ used fs.block node = ap (at_or_0 (used fs.block)) there in
     omega (arith, w.blocks, used_by_all-insert fs.block fs.nodes d new, same, before)) in
     let mine : some_and (map.get one.pending q) (λ l. l == i) ≡ true = ap (λ o. some_and o (λ l. l == i)) (get_at fs.pending q i) ∙ eq-eqb i i refl in

@@ -122,7 +122,7 @@ absent_or (Some x) = inr (x, refl)
 unreferenced : (n : ℕ) → not (n == 0) ≡ false → n ≡ 0
 unreferenced n e = grind (arith, nat_tests)
 
-without_links : (b : Bool) (n : ℕ) → n ≡ 0 → (b && nat_lt 0 n) ≡ false
+pub without_links : (b : Bool) (n : ℕ) → n ≡ 0 → (b && nat_lt 0 n) ≡ false
 without_links true n e = ap (nat_lt 0) e
 without_links false n e = refl
 

@@ -17,13 +17,16 @@ pub mod KeepsFiles
 pub mod KeepsLinks
 pub mod KeepsNames
 pub mod KeepsPromises
+pub mod KeepsPruned
 pub mod KeepsPurge
 pub mod KeepsReferences
 pub mod KeepsRemoval
+pub mod KeepsRmdir
 pub mod KeepsWhole
 pub mod NameEntries
 pub mod Shown
 pub mod Totals
+pub mod TwoNodes
 pub mod Undone
 pub mod Used
 pub mod UsedPages

@@ -16,6 +16,7 @@ pub fn steps_keep_whole()
     ensures enter { (dir : ℕ) (name : List ℕ) (ino : ℕ) → IsName name → KeepsWholeWithRoom (op.Enter dir name ino) }
     ensures sub_link { (ino : ℕ) → KeepsWhole (op.SubLink ino) }
     ensures unlink { (dir : ℕ) (name : List ℕ) → KeepsWhole (op.Unlink dir name) }
+    ensures rmdir { (dir : ℕ) (name : List ℕ) → KeepsWhole (op.Rmdir dir name) }
     ensures open { (ino : ℕ) (mode : Mode) → KeepsWhole (op.OpenFile ino mode) }
     ensures close { (file : ℕ) → KeepsWhole (op.CloseFile file) }
     ensures dup { (file : ℕ) → KeepsWhole (op.DupFile file) }

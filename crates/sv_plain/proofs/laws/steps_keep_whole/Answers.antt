@@ -7,6 +7,7 @@ use Rattle.sv_plain.proofs.KeepsLinks.{keeps-add_link, keeps-sub_link, keeps-tru
 use Rattle.sv_plain.proofs.KeepsCreate.{keeps-create_file}
 use Rattle.sv_plain.proofs.KeepsEntered.{keeps-enter}
 use Rattle.sv_plain.proofs.KeepsNames.{keeps-unlink}
+use Rattle.sv_plain.proofs.KeepsRmdir.{keeps-rmdir}
 use Rattle.sv_plain.proofs.KeepsWhole.{keeps-look, keeps-drop, keeps-open, keeps-close, keeps-dup, keeps-read, keeps-seek, keeps-promised, keeps-forgone}
 use Rattle.sv_plain.proofs.KeepsPurge.{keeps-purge}
 use Rattle.sv_plain.proofs.laws.steps_keep_whole.Goals as goal
@@ -31,6 +32,9 @@ returns-clause-enter c = λ dir name ino is_name fs after p reply room w s. subs
 
 pub returns-clause-create_file : goal.returns-clause-create_file
 returns-clause-create_file c = λ dir name mode is_name fs after p reply room w s. subst IsWhole (sym s.changed) (keeps-create_file fs p dir name mode reply w room.all is_name s.allowed s.right)
+
+pub returns-clause-rmdir : goal.returns-clause-rmdir
+returns-clause-rmdir c = λ dir name fs after p reply w s. subst IsWhole (sym s.changed) (keeps-rmdir fs p dir name reply w (not_true (is_dots name) (and_right (has_reference fs p dir) _ s.allowed)) s.right)
 
 pub returns-clause-trunc : goal.returns-clause-trunc
 returns-clause-trunc c = λ ino fs after p reply w s. subst IsWhole (sym s.changed) (keeps-trunc fs p ino reply w s.allowed s.right)
