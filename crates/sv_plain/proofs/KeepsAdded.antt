@@ -7,6 +7,7 @@ use Rattle.std.specs.Ordering.{nat_cmp, eq_by_cmp}
 use Rattle.std.specs.Cmp.{nat_cmp_total, Equal-is}
 use Rattle.std.specs.FinMap as map
 use Rattle.std.specs.FinMap.{FinMap, nat_cmp-IsAntisymmetric, find, is_sorted}
+use Rattle.std.specs.FinMap.Entries.{below_all}
 use Rattle.sv_form.specs.declared.kind.Kind.TheVariants.{File}
 use Rattle.sv_form.specs.Node.{Node, entry_inode, entry_count}
 use Rattle.sv_plain.specs.Totals.{total, at_or_0}
@@ -36,7 +37,7 @@ sum_zero : {X : Type 0} (f : ℕ → X → ℕ) (es : List (ℕ × X)) → T (is
 sum_zero f [] s h = refl
 sum_zero {X = X} f (e ∷ es) s h =
     let here : f e.0 e.1 ≡ 0 = h e.0 e.1 (ap (λ b. cond b (Some e.1) (find nat_cmp e.0 es)) (same_key e.0)) in
-    let rest : sum_by (λ (e : ℕ × X). f e.0 e.1) es ≡ 0 = sum_zero f es (right _ _ s) (λ k v g. h k v (found_later e es s k v g)) in
+    let rest : sum_by (λ (e : ℕ × X). f e.0 e.1) es ≡ 0 = sum_zero f es (right (below_all nat_cmp e.0 es) (is_sorted nat_cmp es) s) (λ k v g. h k v (found_later e es s k v g)) in
     omega (arith, here, rest, sum_by-cons (λ (e : ℕ × X). f e.0 e.1) e es)
 
 pub total-zero : {X : Type 0} (f : ℕ → X → ℕ) (m : FinMap nat_cmp X) → ((k : ℕ) (v : X) → map.get m k ≡ Some v → f k v ≡ 0) → total f m ≡ 0

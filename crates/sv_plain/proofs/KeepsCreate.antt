@@ -1,14 +1,16 @@
 -- A file system stays whole by each step of Create.
-use Rattle.std.proofs.Common.{◌≡◌, ◌≤◌, ℕ, ◌*◌, ◌==◌, true, false, not, ◌&&◌, List, IsSome, Some, nat_le, is_some, sym, refl, subst, arith}
+use Rattle.std.proofs.Common.{◌≡◌, ◌≤◌, ℕ, ◌*◌, ◌==◌, true, false, not, ◌&&◌, List, IsSome, Some, nat_le, is_some, sym, refl, ap, subst, ◌∙◌, arith}
 use Rattle.std.proofs.lemmas.Bool.{leb-true}
 use Rattle.std.specs.FinMap as map
 use Rattle.sv_form.specs.declared.kind.Kind.{Kind}
-use Rattle.sv_form.specs.declared.kind.Kind.TheVariants.{File}
+use Rattle.sv_form.specs.declared.kind.Kind.TheVariants.{File, Dir}
 use Rattle.sv_form.specs.Name.{IsName}
 use Rattle.sv_form.specs.Node.{Node}
 use Rattle.sv_plain.specs.declared.reply.Reply.{Reply}
 use Rattle.sv_plain.specs.declared.reply.Reply.TheVariants.{Found, Made}
 use Rattle.sv_plain.specs.Fs.{Fs, changed, is_live, is_full_for, free_inodes}
+use Rattle.sv_plain.specs.Totals.{at_or_0}
+use Rattle.sv_plain.specs.Laws.{HasRoomForNames}
 use Rattle.sv_plain.specs.Whole.{IsWhole}
 use Rattle.sv_plain.specs.Names.{has_reference, promise_of, is_missing, is_open_to_names, is_table_full, child}
 use Rattle.sv_plain.specs.Change.{with_entry, with_links, new_node, one_more, spent}
@@ -21,6 +23,7 @@ use Rattle.sv_plain.proofs.KeepsNames.{child-of}
 use Rattle.sv_plain.proofs.KeepsWhole.{live-of}
 use Rattle.sv_plain.proofs.KeepsEntered.{enter-need}
 use Rattle.sv_plain.proofs.KeepsCreated.{created-file}
+use Rattle.sv_plain.proofs.KeepsCreatedDirectory.{make-need, created-directory}
 
 -- what is known where process p makes i in directory d
 pub record IsMaking (fs : Fs) (p d i : ℕ) (name : List ℕ) (kind : Kind) (mode : ℕ) : Type 0 where
@@ -64,11 +67,26 @@ made-file fs p d i name mode w room is_name m =
     })) (sym need)
     (created-file fs p d i name mode m.node w m.there m.live (missing-place fs d name m.node m.there m.missing) is_name room (let paid = m.paid in omega (arith, paid, need)) m.mode_fits m.free m.place)
 
-pub keeps-create_file : (fs : Fs) (p d : ℕ) (name : List ℕ) (mode : ℕ) (reply : Reply) → IsWhole fs → 16000 * fs.inodes ≤ fs.greatest → IsName name → create_allowed fs p d name File mode ≡ true → create_replies fs d name File reply ≡ true
-    → IsWhole (create_change fs p d name File mode reply)
-keeps-create_file fs p d name mode (Found i) w room is_name allowed right =
+made-directory : (fs : Fs) (p d i : ℕ) (name : List ℕ) (mode : ℕ) → IsWhole fs → HasRoomForNames fs.block fs.greatest fs.inodes → IsName name → IsMaking fs p d i name Dir mode → IsWhole (create_change fs p d name Dir mode (Made i))
+made-directory fs p d i name mode w room is_name m =
+    let need = make-need fs d name m.node m.there m.missing in
+    let few : (m.node.links == 1000) ≡ false = ap (λ o. at_or_0 (λ (n : Node). n.links) o == 1000) (sym m.there) ∙ m.few in
+    subst (λ (n : ℕ). IsWhole (record fs {
+      nodes = map.insert (changed fs.nodes d (λ node. with_links (links_made Dir) (with_entry fs.block i name node))) i (new_node fs.block i d mode Dir);
+      references = one_more fs p i;
+      promises = spent fs p n;
+    })) (sym need)
+    (created-directory fs p d i name mode m.node w m.there m.live (missing-place fs d name m.node m.there m.missing) is_name room.first_two room.all (let paid = m.paid in omega (arith, paid, need)) few m.mode_fits m.free m.place)
+
+made : (fs : Fs) (p d i : ℕ) (name : List ℕ) (kind : Kind) (mode : ℕ) → IsWhole fs → HasRoomForNames fs.block fs.greatest fs.inodes → IsName name → IsMaking fs p d i name kind mode → IsWhole (create_change fs p d name kind mode (Made i))
+made fs p d i name File mode w room is_name m = made-file fs p d i name mode w room.all is_name m
+made fs p d i name Dir mode w room is_name m = made-directory fs p d i name mode w room is_name m
+
+pub keeps-create : (fs : Fs) (p d : ℕ) (name : List ℕ) (kind : Kind) (mode : ℕ) (reply : Reply) → IsWhole fs → HasRoomForNames fs.block fs.greatest fs.inodes → IsName name → create_allowed fs p d name kind mode ≡ true
+    → create_replies fs d name kind reply ≡ true → IsWhole (create_change fs p d name kind mode reply)
+keeps-create fs p d name kind mode (Found i) w room is_name allowed right =
     let c = child-of fs d i name (λ c. not (is_full_for fs c)) w right in
     let there : IsSome (map.get fs.nodes i) = subst IsSome (sym c.it) refl in
     keeps-one_more fs p i w there (number_within fs i w there) (not_true (is_full_for fs i) c.passed)
-keeps-create_file fs p d name mode (Made i) w room is_name allowed right = made-file fs p d i name mode w room is_name (making fs p d i name File mode w allowed right)
-keeps-create_file fs p d name mode _ w room is_name allowed right = w
+keeps-create fs p d name kind mode (Made i) w room is_name allowed right = made fs p d i name kind mode w room is_name (making fs p d i name kind mode w allowed right)
+keeps-create fs p d name kind mode _ w room is_name allowed right = w

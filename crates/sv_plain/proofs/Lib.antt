@@ -10,11 +10,13 @@ pub mod Kept
 pub mod KeepsAdded
 pub mod KeepsCreate
 pub mod KeepsCreated
+pub mod KeepsCreatedDirectory
 pub mod KeepsDirectory
 pub mod KeepsEntered
 pub mod KeepsFile
 pub mod KeepsFiles
 pub mod KeepsLinks
+pub mod KeepsMade
 pub mod KeepsNames
 pub mod KeepsPromises
 pub mod KeepsPruned
@@ -23,6 +25,7 @@ pub mod KeepsReferences
 pub mod KeepsRemoval
 pub mod KeepsRmdir
 pub mod KeepsWhole
+pub mod MadeDirectory
 pub mod NameEntries
 pub mod Shown
 pub mod Totals

@@ -1,6 +1,6 @@
 // What holds of the steps themselves, without code.
 ghost use Rattle.std.specs.Prelude.{ℕ, ℤ, List};
-ghost use Rattle.sv_form.specs.declared.kind.Kind.TheVariants.{File};
+ghost use Rattle.sv_form.specs.declared.kind.Kind.{Kind};
 ghost use Rattle.sv_form.specs.Name.{IsName};
 ghost use Rattle.sv_plain.specs.declared.mode.Mode.{Mode};
 ghost use Rattle.sv_plain.specs.declared.need.Need.{Need};
@@ -12,7 +12,7 @@ pub fn steps_keep_whole()
     ensures look { (dir : ℕ) (name : List ℕ) → KeepsWhole (op.Look dir name) }
     ensures dropped { (ino : ℕ) → KeepsWhole (op.Drop ino) }
     ensures add_link { (ino : ℕ) → KeepsWhole (op.AddLink ino) }
-    ensures create_file { (dir : ℕ) (name : List ℕ) (mode : ℕ) → IsName name → KeepsWholeWithRoom (op.Create dir name File mode) }
+    ensures create { (dir : ℕ) (name : List ℕ) (kind : Kind) (mode : ℕ) → IsName name → KeepsWholeWithRoom (op.Create dir name kind mode) }
     ensures enter { (dir : ℕ) (name : List ℕ) (ino : ℕ) → IsName name → KeepsWholeWithRoom (op.Enter dir name ino) }
     ensures sub_link { (ino : ℕ) → KeepsWhole (op.SubLink ino) }
     ensures unlink { (dir : ℕ) (name : List ℕ) → KeepsWhole (op.Unlink dir name) }

@@ -4,7 +4,7 @@ use Rattle.sv_plain.specs.Names.{has_reference}
 use Rattle.sv_plain.specs.Step.{is_dots}
 use Rattle.sv_plain.proofs.Got.{and_left, and_right, not_true}
 use Rattle.sv_plain.proofs.KeepsLinks.{keeps-add_link, keeps-sub_link, keeps-trunc}
-use Rattle.sv_plain.proofs.KeepsCreate.{keeps-create_file}
+use Rattle.sv_plain.proofs.KeepsCreate.{keeps-create}
 use Rattle.sv_plain.proofs.KeepsEntered.{keeps-enter}
 use Rattle.sv_plain.proofs.KeepsNames.{keeps-unlink}
 use Rattle.sv_plain.proofs.KeepsRmdir.{keeps-rmdir}
@@ -30,8 +30,8 @@ returns-clause-unlink c = λ dir name fs after p reply w s. subst IsWhole (sym s
 pub returns-clause-enter : goal.returns-clause-enter
 returns-clause-enter c = λ dir name ino is_name fs after p reply room w s. subst IsWhole (sym s.changed) (keeps-enter fs p dir name ino reply w room.all is_name s.allowed s.right)
 
-pub returns-clause-create_file : goal.returns-clause-create_file
-returns-clause-create_file c = λ dir name mode is_name fs after p reply room w s. subst IsWhole (sym s.changed) (keeps-create_file fs p dir name mode reply w room.all is_name s.allowed s.right)
+pub returns-clause-create : goal.returns-clause-create
+returns-clause-create c = λ dir name kind mode is_name fs after p reply room w s. subst IsWhole (sym s.changed) (keeps-create fs p dir name kind mode reply w room is_name s.allowed s.right)
 
 pub returns-clause-rmdir : goal.returns-clause-rmdir
 returns-clause-rmdir c = λ dir name fs after p reply w s. subst IsWhole (sym s.changed) (keeps-rmdir fs p dir name reply w (not_true (is_dots name) (and_right (has_reference fs p dir) _ s.allowed)) s.right)
