@@ -7,7 +7,8 @@ ghost use Rattle.sv_plain.specs.declared.need.Need.{Need};
 ghost use Rattle.sv_plain.specs.declared.op.Op.TheVariants as op;
 ghost use Rattle.sv_plain.specs.Laws.{KeepsWhole, KeepsWholeWithRoom};
 
-/// A step of these ops leaves a whole file system whole, whichever reply it has.
+/// A step of these ops leaves a whole file system whole, whichever reply it has. Of `Create` and `Enter` this is said of
+/// names (1 to 14 bytes, no slash or zero), and where the sizes have room for all names.
 pub fn steps_keep_whole()
     ensures look { (dir : ℕ) (name : List ℕ) → KeepsWhole (op.Look dir name) }
     ensures dropped { (ino : ℕ) → KeepsWhole (op.Drop ino) }
