@@ -1,5 +1,5 @@
 -- A directory without an empty entry has at most as many entries as all inodes have links, and so room for one more.
-use Rattle.std.proofs.Common.{◌≡◌, ◌≢◌, ◌≤◌, ◌<◌, ℕ, zero, suc, ◌+◌, ◌-◌, ◌*◌, ◌==◌, ◌⊎◌, inl, inr, true, false, nat_lt, List, if◌then◌else◌, Option, Some, None, IsSome, sym, refl, ap, ◌∙◌, arith}
+use Rattle.std.proofs.Common.{◌≡◌, ◌≢◌, ◌≤◌, ◌<◌, ℕ, zero, suc, ◌+◌, ◌-◌, ◌*◌, ◌==◌, inl, inr, true, false, nat_lt, List, if◌then◌else◌, Option, Some, None, IsSome, sym, refl, ap, ◌∙◌, arith}
 use Rattle.std.proofs.lemmas.Bool.{cases_order, eq-eqb, ne_eqb}
 use Rattle.std.proofs.lemmas.Bool.Decides.{nat_tests}
 use Rattle.std.specs.List.{range_with_len, count_by}
@@ -12,7 +12,7 @@ use Rattle.sv_plain.specs.Fs.{Fs, is_live, naming_count, namings}
 use Rattle.sv_plain.specs.Whole.{IsWhole}
 use Rattle.sv_plain.proofs.Counts.{count-cons, count_alike, count_none, count_all}
 use Rattle.sv_plain.proofs.KeepsReferences.{some_item}
-use Rattle.sv_plain.proofs.KeepsRemoval.{Nodes, total-at}
+use Rattle.sv_plain.proofs.KeepsRemoval.{Nodes, absent_or, total-at}
 
 is_less : (x m : ℕ) → x < m → nat_lt x m ≡ true
 is_less x m h = grind (arith, nat_tests)
@@ -63,10 +63,6 @@ naming-within block nodes d node i there live =
     let sum = total-at nat_cmp_total nat_cmp-IsAntisymmetric (λ (_ : ℕ) (n : Node). if is_live n then naming_count block n 0 i else 0) nodes d node there in
     let here : (if is_live node then naming_count block node 0 i else 0) ≡ naming_count block node 0 i = ap (λ b. if b then naming_count block node 0 i else 0) live in
     omega (arith, sum, here)
-
-pub absent_or : {A : Type 0} (o : Option A) → (o ≡ None) ⊎ ((x : A) × (o ≡ Some x))
-absent_or None = inl refl
-absent_or (Some x) = inr (x, refl)
 
 no_item_there : {A : Type 0} (o : Option A) → o ≡ None → IsSome o → ⊥
 no_item_there o none some = (let item = some_item o some in let clash : None ≡ Some item.0 = sym none ∙ item.1 in cc)

@@ -16,7 +16,8 @@ use Rattle.sv_plain.proofs.EntryPut.{with_put, whole_place}
 use Rattle.sv_plain.proofs.DirectoryPut.{empty-past}
 use Rattle.sv_plain.proofs.NameEntries.{empty-none, empty-at, third-empty}
 use Rattle.sv_plain.proofs.KeepsPromises.{Promises, promised-insert}
-use Rattle.sv_plain.proofs.EntriesFew.{absent_or, entries-few}
+use Rattle.sv_plain.proofs.EntriesFew.{entries-few}
+use Rattle.sv_plain.proofs.KeepsRemoval.{absent_or}
 
 -- ---- promises
 

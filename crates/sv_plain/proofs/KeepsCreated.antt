@@ -78,6 +78,7 @@ empty_file block greatest inodes i d mode least most fits = record {
   pages = λ k bytes e. (let none : None ≡ Some bytes = sym (map.get-empty nat_cmp k) ∙ e in cc);
 }
 
+-- in two steps: the file comes with a link that is pending for a process that had none pending; then its name is entered
 pub created-file : (fs : Fs) (p d i : ℕ) (name : List ℕ) (mode : ℕ) (node : Node) → IsWhole fs → map.get fs.nodes d ≡ Some node → is_live node ≡ true
     → place_of fs.block node name ≡ None → IsName name → 16000 * fs.inodes ≤ fs.greatest → entry_need fs.block node ≤ promise_of fs p
     → mode ≤ 4095 → is_free fs i ≡ true → is_table_full fs ≡ false

@@ -130,6 +130,7 @@ some_inserted nodes i j (Some x) there = still_some nodes i j x there
 pub some_changed : (nodes : Nodes) (i j : ℕ) (f : Node → Node) → IsSome (map.get nodes j) → IsSome (map.get (changed nodes i f) j)
 some_changed nodes i j f there = some_inserted nodes i j (option_map f (map.get nodes i)) there
 
+-- in two steps: the entry goes, and its link is pending for a process that had none pending; then that link goes
 pub unlinked : (fs : Fs) (p d i j : ℕ) (name : List ℕ) (node x : Node) → IsWhole fs → map.get fs.nodes d ≡ Some node → is_live node ≡ true → map.get fs.nodes i ≡ Some x → x.kind ≡ File
     → place_of fs.block node name ≡ Some j → entry_inode fs.block node j ≡ i → is_dots name ≡ false → is_full_for fs i ≡ false
     → IsWhole (unlink_change fs p d name (Removed i))
@@ -147,7 +148,6 @@ unlinked fs p d i j name node x w there live it file place names no_dots room =
     let free = unused fs.pending in
     let q : ℕ = free.0 in
     let none : (k : ℕ) → at_or_0 (λ (l : ℕ). one_if (l == k)) (map.get fs.pending q) ≡ 0 = λ k. ap (at_or_0 (λ (l : ℕ). one_if (l == k))) free.1 in
-    let two = (w.nodes i x it).least in
     let one : Fs = record fs { nodes = map.insert fs.nodes d new; pending = map.insert fs.pending q i } in
     let whole_one : IsWhole one =
     keeps-put fs d node j 0 0 (replicate 14 0) w there live refl third within (omega (arith, n.size, at.0)) (map.insert fs.pending q i) fs.promises

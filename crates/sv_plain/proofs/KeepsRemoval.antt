@@ -115,7 +115,7 @@ above-live fs w d x e live =
           (above.0, ap (map.get fs.nodes) up ∙ above.1, above.2)
     ]
 
-absent_or : {A : Type 0} (o : Option A) → (o ≡ None) ⊎ ((x : A) × (o ≡ Some x))
+pub absent_or : {A : Type 0} (o : Option A) → (o ≡ None) ⊎ ((x : A) × (o ≡ Some x))
 absent_or None = inl refl
 absent_or (Some x) = inr (x, refl)
 
