@@ -57,5 +57,9 @@ sized g h = record {
       (let per : ℕ = numbers_per g.block_size in
       let low = least 2147483647 ((10 + per + per * per + per * per * per) * g.block_size) in
       omega (arith, low));
+  names_fit =
+      (let few = few_inodes g.block_size g.first_data h.block_size h.most_first in
+      let greatest : greatest_size g.block_size ≡ 2147483647 = ap greatest_size h.block_size in
+      omega (arith, few, greatest));
   inodes_fit = few_inodes g.block_size g.first_data h.block_size h.most_first;
 }

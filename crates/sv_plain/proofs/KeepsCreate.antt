@@ -1,5 +1,5 @@
 -- A file system stays whole by each step of Create.
-use Rattle.std.proofs.Common.{◌≡◌, ◌≤◌, ℕ, ◌*◌, ◌==◌, true, false, not, ◌&&◌, List, IsSome, Some, nat_le, is_some, sym, refl, ap, subst, ◌∙◌, arith}
+use Rattle.std.proofs.Common.{◌≡◌, ◌≤◌, ℕ, ◌==◌, true, false, not, ◌&&◌, List, IsSome, Some, nat_le, is_some, sym, refl, ap, subst, ◌∙◌, arith}
 use Rattle.std.proofs.lemmas.Bool.{leb-true}
 use Rattle.std.specs.FinMap as map
 use Rattle.sv_form.specs.declared.kind.Kind.{Kind}
@@ -10,7 +10,6 @@ use Rattle.sv_plain.specs.declared.reply.Reply.{Reply}
 use Rattle.sv_plain.specs.declared.reply.Reply.TheVariants.{Found, Made}
 use Rattle.sv_plain.specs.Fs.{Fs, changed, is_live, is_full_for, free_inodes}
 use Rattle.sv_plain.specs.Totals.{at_or_0}
-use Rattle.sv_plain.specs.Laws.{HasRoomForNames}
 use Rattle.sv_plain.specs.Whole.{IsWhole}
 use Rattle.sv_plain.specs.Names.{has_reference, promise_of, is_missing, is_open_to_names, is_table_full, child}
 use Rattle.sv_plain.specs.Change.{with_entry, with_links, new_node, one_more, spent}
@@ -57,18 +56,18 @@ making fs p d i name kind mode w allowed right =
       place = not_true (is_table_full fs) (and_left (not (is_table_full fs)) (is_free fs i) rest);
     }
 
-made-file : (fs : Fs) (p d i : ℕ) (name : List ℕ) (mode : ℕ) → IsWhole fs → 16000 * fs.inodes ≤ fs.greatest → IsName name → IsMaking fs p d i name File mode → IsWhole (create_change fs p d name File mode (Made i))
-made-file fs p d i name mode w room is_name m =
+made-file : (fs : Fs) (p d i : ℕ) (name : List ℕ) (mode : ℕ) → IsWhole fs → IsName name → IsMaking fs p d i name File mode → IsWhole (create_change fs p d name File mode (Made i))
+made-file fs p d i name mode w is_name m =
     let need = enter-need fs d name m.node m.there m.missing in
     subst (λ (n : ℕ). IsWhole (record fs {
       nodes = map.insert (changed fs.nodes d (λ node. with_links (links_made File) (with_entry fs.block i name node))) i (new_node fs.block i d mode File);
       references = one_more fs p i;
       promises = spent fs p n;
     })) (sym need)
-    (created-file fs p d i name mode m.node w m.there m.live (missing-place fs d name m.node m.there m.missing) is_name room (let paid = m.paid in omega (arith, paid, need)) m.mode_fits m.free m.place)
+    (created-file fs p d i name mode m.node w m.there m.live (missing-place fs d name m.node m.there m.missing) is_name w.sized.names_fit (let paid = m.paid in omega (arith, paid, need)) m.mode_fits m.free m.place)
 
-made-directory : (fs : Fs) (p d i : ℕ) (name : List ℕ) (mode : ℕ) → IsWhole fs → HasRoomForNames fs.block fs.greatest fs.inodes → IsName name → IsMaking fs p d i name Dir mode → IsWhole (create_change fs p d name Dir mode (Made i))
-made-directory fs p d i name mode w room is_name m =
+made-directory : (fs : Fs) (p d i : ℕ) (name : List ℕ) (mode : ℕ) → IsWhole fs → IsName name → IsMaking fs p d i name Dir mode → IsWhole (create_change fs p d name Dir mode (Made i))
+made-directory fs p d i name mode w is_name m =
     let need = make-need fs d name m.node m.there m.missing in
     let few : (m.node.links == 1000) ≡ false = ap (λ o. at_or_0 (λ (n : Node). n.links) o == 1000) (sym m.there) ∙ m.few in
     subst (λ (n : ℕ). IsWhole (record fs {
@@ -76,17 +75,17 @@ made-directory fs p d i name mode w room is_name m =
       references = one_more fs p i;
       promises = spent fs p n;
     })) (sym need)
-    (created-directory fs p d i name mode m.node w m.there m.live (missing-place fs d name m.node m.there m.missing) is_name room.first_two room.all (let paid = m.paid in omega (arith, paid, need)) few m.mode_fits m.free m.place)
+    (created-directory fs p d i name mode m.node w m.there m.live (missing-place fs d name m.node m.there m.missing) is_name w.sized.some w.sized.names_fit (let paid = m.paid in omega (arith, paid, need)) few m.mode_fits m.free m.place)
 
-made : (fs : Fs) (p d i : ℕ) (name : List ℕ) (kind : Kind) (mode : ℕ) → IsWhole fs → HasRoomForNames fs.block fs.greatest fs.inodes → IsName name → IsMaking fs p d i name kind mode → IsWhole (create_change fs p d name kind mode (Made i))
-made fs p d i name File mode w room is_name m = made-file fs p d i name mode w room.all is_name m
-made fs p d i name Dir mode w room is_name m = made-directory fs p d i name mode w room is_name m
+made : (fs : Fs) (p d i : ℕ) (name : List ℕ) (kind : Kind) (mode : ℕ) → IsWhole fs → IsName name → IsMaking fs p d i name kind mode → IsWhole (create_change fs p d name kind mode (Made i))
+made fs p d i name File mode w is_name m = made-file fs p d i name mode w is_name m
+made fs p d i name Dir mode w is_name m = made-directory fs p d i name mode w is_name m
 
-pub keeps-create : (fs : Fs) (p d : ℕ) (name : List ℕ) (kind : Kind) (mode : ℕ) (reply : Reply) → IsWhole fs → HasRoomForNames fs.block fs.greatest fs.inodes → IsName name → create_allowed fs p d name kind mode ≡ true
+pub keeps-create : (fs : Fs) (p d : ℕ) (name : List ℕ) (kind : Kind) (mode : ℕ) (reply : Reply) → IsWhole fs → IsName name → create_allowed fs p d name kind mode ≡ true
     → create_replies fs d name kind reply ≡ true → IsWhole (create_change fs p d name kind mode reply)
-keeps-create fs p d name kind mode (Found i) w room is_name allowed right =
+keeps-create fs p d name kind mode (Found i) w is_name allowed right =
     let c = child-of fs d i name (λ c. not (is_full_for fs c)) w right in
     let there : IsSome (map.get fs.nodes i) = subst IsSome (sym c.it) refl in
     keeps-one_more fs p i w there (number_within fs i w there) (not_true (is_full_for fs i) c.passed)
-keeps-create fs p d name kind mode (Made i) w room is_name allowed right = made fs p d i name kind mode w room is_name (making fs p d i name kind mode w allowed right)
-keeps-create fs p d name kind mode _ w room is_name allowed right = w
+keeps-create fs p d name kind mode (Made i) w is_name allowed right = made fs p d i name kind mode w is_name (making fs p d i name kind mode w allowed right)
+keeps-create fs p d name kind mode _ w is_name allowed right = w

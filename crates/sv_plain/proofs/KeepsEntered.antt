@@ -75,9 +75,9 @@ pub enter-need : (fs : Fs) (d : ℕ) (name : List ℕ) (node : Node) → map.get
 enter-need fs d name node there missing =
     ap (λ b. if b then 0 else at_or_0 (entry_need fs.block) (map.get fs.nodes d)) (missing-enters fs d name missing) ∙ ap (at_or_0 (entry_need fs.block)) there
 
-pub keeps-enter : (fs : Fs) (p d : ℕ) (name : List ℕ) (i : ℕ) (reply : Reply) → IsWhole fs → 16000 * fs.inodes ≤ fs.greatest → IsName name → enter_allowed fs p d name i ≡ true → enter_replies fs d name reply ≡ true
+pub keeps-enter : (fs : Fs) (p d : ℕ) (name : List ℕ) (i : ℕ) (reply : Reply) → IsWhole fs → IsName name → enter_allowed fs p d name i ≡ true → enter_replies fs d name reply ≡ true
     → IsWhole (enter_change fs p d name i reply)
-keeps-enter fs p d name i Entered w room is_name allowed right =
+keeps-enter fs p d name i Entered w is_name allowed right =
     let dir = referred fs p d w (and_left (has_reference fs p d) (is_pending fs p i && nat_le (enter_need fs d name) (promise_of fs p)) allowed) in
     let rest = and_right (has_reference fs p d) (is_pending fs p i && nat_le (enter_need fs d name) (promise_of fs p)) allowed in
     let on = pending_is (map.get fs.pending p) i (and_left (is_pending fs p i) (nat_le (enter_need fs d name) (promise_of fs p)) rest) in
@@ -88,5 +88,5 @@ keeps-enter fs p d name i Entered w room is_name allowed right =
     subst (λ (n : ℕ). IsWhole (record fs { nodes = changed fs.nodes d (with_entry fs.block i name); promises = spent fs p n; pending = map.remove fs.pending p })) (sym need)
     (subst (λ (m : Nodes). IsWhole (record fs { nodes = m; promises = spent fs p (entry_need fs.block dir.0); pending = map.remove fs.pending p }))
     (changed-there fs.nodes d (with_entry fs.block i name) dir.0 dir.1)
-    (entered fs p p d i name dir.0 x.0 w dir.1 live x.1 x.2 on (missing-place fs d name dir.0 dir.1 right) is_name room (omega (arith, paid, need))))
-keeps-enter fs p d name i _ w room is_name allowed right = w
+    (entered fs p p d i name dir.0 x.0 w dir.1 live x.1 x.2 on (missing-place fs d name dir.0 dir.1 right) is_name w.sized.names_fit (omega (arith, paid, need))))
+keeps-enter fs p d name i _ w is_name allowed right = w

@@ -11,12 +11,14 @@ use Rattle.sv_plain.specs.declared.opening.Opening.{Opening}
 use Rattle.sv_plain.specs.Totals.{at_or_0}
 use Rattle.sv_plain.specs.Fs.{Fs, used_by_all, promised, places_taken, is_live, naming_count, namings, children, pending_on}
 
--- the sizes: a block has at least one number and whole entries, and inode numbers fit into two bytes
+-- the sizes: a block has whole entries, the first two of a directory among them, inode numbers fit into two bytes, and a
+-- directory that names each inode as often as an inode has links at most, 1,000 times, is no larger than the greatest size
 pub record IsSized (block greatest inodes : ℕ) : Type 0 where
-  pub some : 4 ≤ block
+  pub some : 32 ≤ block
   pub block_fits : block ≤ 1024
   pub entries : block % 16 ≡ 0
   pub greatest_fits : greatest < 2 ^ 31
+  pub names_fit : 16000 * inodes ≤ greatest
   pub inodes_fit : inodes < 2 ^ 16
 
 -- page k of a node of that size: a whole block, which does not lie past the size, and whose bytes past the size are 0

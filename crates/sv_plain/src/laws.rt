@@ -5,16 +5,16 @@ ghost use Rattle.sv_form.specs.Name.{IsName};
 ghost use Rattle.sv_plain.specs.declared.mode.Mode.{Mode};
 ghost use Rattle.sv_plain.specs.declared.need.Need.{Need};
 ghost use Rattle.sv_plain.specs.declared.op.Op.TheVariants as op;
-ghost use Rattle.sv_plain.specs.Laws.{KeepsWhole, KeepsWholeWithRoom};
+ghost use Rattle.sv_plain.specs.Laws.{KeepsWhole};
 
 /// A step of these ops leaves a whole file system whole, whichever reply it has. Of `Create` and `Enter` this is said of
-/// names (1 to 14 bytes, no slash or zero), and where the sizes have room for all names.
+/// names (1 to 14 bytes, no slash or zero).
 pub fn steps_keep_whole()
     ensures look { (dir : ℕ) (name : List ℕ) → KeepsWhole (op.Look dir name) }
     ensures dropped { (ino : ℕ) → KeepsWhole (op.Drop ino) }
     ensures add_link { (ino : ℕ) → KeepsWhole (op.AddLink ino) }
-    ensures create { (dir : ℕ) (name : List ℕ) (kind : Kind) (mode : ℕ) → IsName name → KeepsWholeWithRoom (op.Create dir name kind mode) }
-    ensures enter { (dir : ℕ) (name : List ℕ) (ino : ℕ) → IsName name → KeepsWholeWithRoom (op.Enter dir name ino) }
+    ensures create { (dir : ℕ) (name : List ℕ) (kind : Kind) (mode : ℕ) → IsName name → KeepsWhole (op.Create dir name kind mode) }
+    ensures enter { (dir : ℕ) (name : List ℕ) (ino : ℕ) → IsName name → KeepsWhole (op.Enter dir name ino) }
     ensures sub_link { (ino : ℕ) → KeepsWhole (op.SubLink ino) }
     ensures unlink { (dir : ℕ) (name : List ℕ) → KeepsWhole (op.Unlink dir name) }
     ensures rmdir { (dir : ℕ) (name : List ℕ) → KeepsWhole (op.Rmdir dir name) }

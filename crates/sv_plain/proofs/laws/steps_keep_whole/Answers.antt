@@ -28,10 +28,10 @@ pub returns-clause-unlink : goal.returns-clause-unlink
 returns-clause-unlink c = λ dir name fs after p reply w s. subst IsWhole (sym s.changed) (keeps-unlink fs p dir name reply w (not_true (is_dots name) (and_right (has_reference fs p dir) _ s.allowed)) s.right)
 
 pub returns-clause-enter : goal.returns-clause-enter
-returns-clause-enter c = λ dir name ino is_name fs after p reply room w s. subst IsWhole (sym s.changed) (keeps-enter fs p dir name ino reply w room.all is_name s.allowed s.right)
+returns-clause-enter c = λ dir name ino is_name fs after p reply w s. subst IsWhole (sym s.changed) (keeps-enter fs p dir name ino reply w is_name s.allowed s.right)
 
 pub returns-clause-create : goal.returns-clause-create
-returns-clause-create c = λ dir name kind mode is_name fs after p reply room w s. subst IsWhole (sym s.changed) (keeps-create fs p dir name kind mode reply w room is_name s.allowed s.right)
+returns-clause-create c = λ dir name kind mode is_name fs after p reply w s. subst IsWhole (sym s.changed) (keeps-create fs p dir name kind mode reply w is_name s.allowed s.right)
 
 pub returns-clause-rmdir : goal.returns-clause-rmdir
 returns-clause-rmdir c = λ dir name fs after p reply w s. subst IsWhole (sym s.changed) (keeps-rmdir fs p dir name reply w (not_true (is_dots name) (and_right (has_reference fs p dir) _ s.allowed)) s.right)
