@@ -25,8 +25,10 @@ pub mod KeepsReferences
 pub mod KeepsRemoval
 pub mod KeepsRmdir
 pub mod KeepsWhole
+pub mod KeepsWrite
 pub mod MadeDirectory
 pub mod NameEntries
+pub mod PagesPut
 pub mod Shown
 pub mod Totals
 pub mod TwoNodes

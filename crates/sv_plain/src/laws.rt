@@ -7,7 +7,7 @@ ghost use Rattle.sv_plain.specs.declared.need.Need.{Need};
 ghost use Rattle.sv_plain.specs.declared.op.Op.TheVariants as op;
 ghost use Rattle.sv_plain.specs.Laws.{KeepsWhole};
 
-/// A step of these ops leaves a whole file system whole, whichever reply it has. Of `Create` and `Enter` this is said of
+/// A step of each op leaves a whole file system whole, whichever reply it has. Of `Create` and `Enter` this is said of
 /// names (1 to 14 bytes, no slash or zero).
 pub fn steps_keep_whole()
     ensures look { (dir : ℕ) (name : List ℕ) → KeepsWhole (op.Look dir name) }
@@ -22,6 +22,7 @@ pub fn steps_keep_whole()
     ensures close { (file : ℕ) → KeepsWhole (op.CloseFile file) }
     ensures dup { (file : ℕ) → KeepsWhole (op.DupFile file) }
     ensures read { (file count : ℕ) → KeepsWhole (op.Read file count) }
+    ensures write { (file : ℕ) (bytes : List ℕ) → KeepsWhole (op.Write file bytes) }
     ensures seek { (file : ℕ) (offset : ℤ) (whence : ℕ) → KeepsWhole (op.Seek file offset whence) }
     ensures trunc { (ino : ℕ) → KeepsWhole (op.Trunc ino) }
     ensures stat { (ino : ℕ) → KeepsWhole (op.Stat ino) }

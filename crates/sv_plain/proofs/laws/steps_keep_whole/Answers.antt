@@ -10,6 +10,7 @@ use Rattle.sv_plain.proofs.KeepsNames.{keeps-unlink}
 use Rattle.sv_plain.proofs.KeepsRmdir.{keeps-rmdir}
 use Rattle.sv_plain.proofs.KeepsWhole.{keeps-look, keeps-drop, keeps-open, keeps-close, keeps-dup, keeps-read, keeps-seek, keeps-promised, keeps-forgone}
 use Rattle.sv_plain.proofs.KeepsPurge.{keeps-purge}
+use Rattle.sv_plain.proofs.KeepsWrite.{keeps-write}
 use Rattle.sv_plain.proofs.laws.steps_keep_whole.Goals as goal
 
 pub returns-clause-look : goal.returns-clause-look
@@ -50,6 +51,9 @@ returns-clause-dup c = λ file fs after p reply w s. subst IsWhole (sym s.change
 
 pub returns-clause-read : goal.returns-clause-read
 returns-clause-read c = λ file count fs after p reply w s. subst IsWhole (sym s.changed) (keeps-read fs file count reply w s.right)
+
+pub returns-clause-write : goal.returns-clause-write
+returns-clause-write c = λ file bytes fs after p reply w s. subst IsWhole (sym s.changed) (keeps-write fs p file bytes reply w s.allowed s.right)
 
 pub returns-clause-seek : goal.returns-clause-seek
 returns-clause-seek c = λ file offset whence fs after p reply w s. subst IsWhole (sym s.changed) (keeps-seek fs file offset whence reply w s.right)
