@@ -13,6 +13,9 @@ pub mod KeepsCreated
 pub mod KeepsCreatedDirectory
 pub mod KeepsDirectory
 pub mod KeepsEntered
+pub mod KeptHolders
+pub mod KeptNodes
+pub mod KeptPromises
 pub mod KeepsFile
 pub mod KeepsFiles
 pub mod KeepsLinks
@@ -29,7 +32,9 @@ pub mod KeepsWrite
 pub mod MadeDirectory
 pub mod NameEntries
 pub mod PagesPut
+pub mod LowestUnused
 pub mod Shown
+pub mod StepBounds
 pub mod Totals
 pub mod TwoNodes
 pub mod Undone

@@ -5,7 +5,7 @@ use Rattle.std.specs.FinMap as map
 use Rattle.std.specs.FinSet as set
 use Rattle.sv_form.specs.Pair.{pair_cmp}
 use Rattle.sv_form.specs.Node.{Node, block_set, numbers_per}
-use Rattle.sv_plain.specs.Totals.{at_or_0}
+use Rattle.sv_plain.specs.HolderCounts.{held_of}
 use Rattle.sv_plain.specs.Fs.{Fs, holders, places_taken, used_by_all, promised}
 use Rattle.sv_plain.specs.Whole.{IsSized}
 use Rattle.sv_plain.specs.declared.fs.Fs.TheInside.{Inside}
@@ -33,5 +33,5 @@ pub record IsKept (a : Inside) : Type 0 where
   pub blocks : AreBlocksOf a.block_size a.nodes a.blocks
   pub used : a.used ≡ used_by_all a.block_size a.nodes
   pub promised : a.promised ≡ promised a.promises
-  pub taken : a.taken ≡ places_taken a.inodes a.references a.files
-  pub held : (i : ℕ) → at_or_0 (λ n. n) (map.get a.held i) ≡ holders a.references a.files i
+  pub taken : a.holders.taken ≡ places_taken a.inodes a.references a.files
+  pub held : (i : ℕ) → held_of a.holders i ≡ holders a.references a.files i

@@ -3,10 +3,12 @@ pub mod Change
 pub mod Front
 pub mod Fs
 pub mod History
+pub mod HolderCounts
 pub mod Keeping
 pub mod Laws
 pub mod Names
 pub mod Needs
 pub mod Step
+pub mod Taken
 pub mod Totals
 pub mod Whole

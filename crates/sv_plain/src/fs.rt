@@ -5,7 +5,11 @@ ghost use Rattle.sv_form.specs.Geometry.{IsGeometry};
 ghost use Rattle.sv_plain.specs.Fs.{empty_fs, with_node, with_page_of, page_of, node_without_pages, free_blocks, free_inodes, greatest_size};
 ghost use Rattle.sv_plain.specs.Whole.{IsWhole};
 
-use crate::{NoMemory, Node, NumberMap, Opening, PairMap, PairSet};
+mod changes;
+mod nodes;
+mod queries;
+
+use crate::{HolderCounts, NoMemory, Node, NumberMap, Opening, PairMap, PairSet};
 use std::alloc::Global;
 use std::marker::Model;
 use sv_form::{Bytes, Geometry, Kind};
@@ -31,8 +35,7 @@ pub struct Fs {
     blocks: NumberMap<PairSet>,
     used: u64,
     promised: u64,
-    taken: u32,
-    held: NumberMap<u64>,
+    holders: HolderCounts,
 }
 
 impl Model for Fs {
@@ -69,8 +72,7 @@ impl Fs {
             blocks: NumberMap::new(alloc),
             used: 0,
             promised: 0,
-            taken: 0,
-            held: NumberMap::new(alloc),
+            holders: HolderCounts::new(alloc),
         })
     }
 

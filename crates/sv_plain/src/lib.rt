@@ -10,9 +10,12 @@
 //! The meaning of a state, and what holds of it at every moment, are `Fs` and `IsWhole` of the specs.
 #![tactic(auto)]
 
+mod apply;
 mod blocks;
 mod entry;
 mod fs;
+mod holder_counts;
+mod illegal;
 mod laws;
 mod mode;
 mod need;
@@ -28,6 +31,8 @@ mod tests;
 
 pub use entry::Entry;
 pub use fs::Fs;
+pub(crate) use holder_counts::HolderCounts;
+pub use illegal::Illegal;
 pub use laws::steps_keep_whole;
 pub use mode::Mode;
 pub use need::Need;

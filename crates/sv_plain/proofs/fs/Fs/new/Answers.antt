@@ -8,6 +8,6 @@ invariant_of-result c = record {
   blocks = rw (c.new.ensures, c.new-6.ensures) (no_blocks c.args.geometry.block_size);
   used = rw c.new.ensures (sym (none_used c.args.geometry.block_size));
   promised = rw c.new-4.ensures (sym none_promised);
-  taken = rw (c.new-2.ensures, c.new-3.ensures) (sym (no_places_taken c.inode_count.result));
+  taken = rw (c.new-2.ensures, c.new-3.ensures, c.new-7.ensures) (sym (no_places_taken c.inode_count.result));
   held = rw (c.new-2.ensures, c.new-3.ensures, c.new-7.ensures) none_held;
 }

@@ -1,0 +1,141 @@
+// What steps ask of the file system: each costs a logarithm in what it holds.
+ghost use Rattle.std.specs.Prelude.{◌≡◌, option_copied};
+ghost use Rattle.std.specs.FinMap as map;
+ghost use Rattle.sv_plain.specs.Totals.{at_or_0};
+ghost use Rattle.sv_plain.specs.Fs.{is_referenced, is_full_for};
+ghost use Rattle.sv_plain.specs.Names.{references_of, has_reference, promise_of, is_pending, is_directory, links_of, is_table_full, is_idle};
+ghost use Rattle.sv_plain.specs.Step.{has_file};
+
+use crate::{Fs, Opening};
+use sv_form::Kind;
+
+impl Fs {
+    // How many references the process has to inode i.
+    pub(crate) fn references_of(&self, process: u8, i: u16) -> u32
+        ensures { result ≡ references_of self.now process i }
+    {
+        match self.references.get(u32::from(process), u32::from(i)) {
+            Some(count) => *count,
+            None => 0,
+        }
+    }
+
+    pub(crate) fn has_reference(&self, process: u8, i: u16) -> bool
+        ensures { result ≡ has_reference self.now process i }
+    {
+        self.references_of(process, i) != 0
+    }
+
+    // A process or a file refers to inode i.
+    pub(crate) fn is_referenced(&self, i: u16) -> bool
+        ensures { result ≡ is_referenced self.now i }
+    {
+        self.holders.count(i) != 0
+    }
+
+    pub(crate) fn is_table_full(&self) -> bool
+        ensures { result ≡ is_table_full self.now }
+    {
+        self.holders.taken == self.places
+    }
+
+    pub(crate) fn is_full_for(&self, i: u16) -> bool
+        ensures { result ≡ is_full_for self.now i }
+    {
+        !self.is_referenced(i) && self.is_table_full()
+    }
+
+    pub(crate) fn is_directory(&self, i: u16) -> bool
+        ensures { result ≡ is_directory self.now i }
+    {
+        match self.nodes.get(u32::from(i)) {
+            Some(node) => match node.kind {
+                Kind::File => false,
+                Kind::Dir => true,
+            },
+            None => false,
+        }
+    }
+
+    pub(crate) fn links_of(&self, i: u16) -> u16
+        ensures { result ≡ links_of self.now i }
+    {
+        match self.nodes.get(u32::from(i)) {
+            Some(node) => node.links,
+            None => 0,
+        }
+    }
+
+    // The size of inode i in bytes, and 0 where there is none.
+    pub(crate) fn size_of(&self, i: u16) -> u32
+        ensures { result ≡ at_or_0 (λ node. node.size) (map.get self.now.nodes i) }
+    {
+        match self.nodes.get(u32::from(i)) {
+            Some(node) => node.size,
+            None => 0,
+        }
+    }
+
+    // The greatest size of a file in bytes.
+    pub(crate) fn greatest(&self) -> u32
+        ensures { result ≡ self.now.greatest }
+    {
+        self.greatest
+    }
+
+    pub(crate) fn promise_of(&self, process: u8) -> u32
+        ensures { result ≡ promise_of self.now process }
+    {
+        match self.promises.get(u32::from(process)) {
+            Some(blocks) => *blocks,
+            None => 0,
+        }
+    }
+
+    pub(crate) fn has_promise(&self, process: u8) -> bool
+        ensures { result ≡ map.contains_key self.now.promises process }
+    {
+        self.promises.contains(u32::from(process))
+    }
+
+    // The process has a pending link on inode i.
+    pub(crate) fn is_pending(&self, process: u8, i: u16) -> bool
+        ensures { result ≡ is_pending self.now process i }
+    {
+        match self.pending.get(u32::from(process)) {
+            Some(inode) => *inode == i,
+            None => false,
+        }
+    }
+
+    pub(crate) fn has_pending(&self, process: u8) -> bool
+        ensures { result ≡ map.contains_key self.now.pending process }
+    {
+        self.pending.contains(u32::from(process))
+    }
+
+    pub(crate) fn file(&self, file: u16) -> Option<Opening>
+        ensures { result ≡ map.get self.now.files file }
+    {
+        self.files.get(u32::from(file)).copied()
+    }
+
+    pub(crate) fn has_file(&self, file: u16) -> bool
+        ensures { result ≡ has_file self.now file }
+    {
+        self.files.contains(u32::from(file))
+    }
+
+    pub(crate) fn file_count(&self) -> usize
+        ensures { result ≡ map.len self.now.files }
+    {
+        self.files.len()
+    }
+
+    // Nothing is referred to.
+    pub(crate) fn is_idle(&self) -> bool
+        ensures { result ≡ is_idle self.now }
+    {
+        self.references.len() == 0 && self.files.len() == 0
+    }
+}
