@@ -1,3 +1,4 @@
 // The steps, one op at a time: its condition, its replies, and what each reply changes.
 mod files;
 mod links;
+mod promises;

@@ -1,8 +1,12 @@
 // Pending links.
-ghost use Rattle.std.specs.Prelude.{◌≡◌};
-ghost use Rattle.sv_plain.specs.Step.{add_link_allowed, add_link_replies, sub_link_allowed, sub_link_replies};
+ghost use Rattle.std.specs.Prelude.{◌≡◌, OnOk, OnErr, IfErr};
+ghost use Rattle.sv_plain.specs.declared.op.Op.TheVariants as op;
+ghost use Rattle.sv_plain.specs.Taken.{IsTaken, IsRefused};
+ghost use Rattle.sv_plain.specs.Whole.{IsWhole};
+ghost use Rattle.sv_plain.specs.Step.{add_link_allowed, add_link_replies, sub_link_allowed, sub_link_replies, trunc_replies};
 
-use crate::{Fs, Reply};
+use crate::{Fs, Illegal, Reply};
+use std::alloc::Global;
 
 // The most links of a file.
 const MOST_LINKS: u16 = 1000;
@@ -39,5 +43,102 @@ impl Fs {
         ensures { result ≡ sub_link_replies reply.now }
     {
         matches!(reply, Reply::Lowered)
+    }
+
+    // AddLink: one link more, which is pending.
+    pub(crate) fn step_add_link(
+        &mut self,
+        alloc: Global,
+        process: u8,
+        i: u16,
+        reply: &Reply,
+    ) -> Result<(), Illegal>
+        requires { IsWhole self.old }
+        ensures taken { OnOk result (IsTaken self.old process (op.AddLink i) reply.now self.new) }
+        ensures refused { IfErr result (IsRefused self.old process (op.AddLink i) reply.now) }
+        ensures kept { OnErr result (self.new ≡ self.old) }
+    {
+        if !self.allows_add_link(process, i) {
+            return Err(Illegal::Condition);
+        }
+        if !self.answers_add_link(i, reply) {
+            return Err(Illegal::Reply);
+        }
+        match reply {
+            Reply::Raised => {
+                let links = self.links_of(i);
+                let Ok(()) = self.set_pending(process, i) else {
+                    return Err(Illegal::NoMemory);
+                };
+                self.set_links(alloc, i, links + 1);
+                Ok(())
+            }
+            _ => Ok(()),
+        }
+    }
+
+    // SubLink: the link that the process has pending is taken back.
+    pub(crate) fn step_sub_link(
+        &mut self,
+        alloc: Global,
+        process: u8,
+        i: u16,
+        reply: &Reply,
+    ) -> Result<(), Illegal>
+        requires { IsWhole self.old }
+        ensures taken { OnOk result (IsTaken self.old process (op.SubLink i) reply.now self.new) }
+        ensures refused { IfErr result (IsRefused self.old process (op.SubLink i) reply.now) }
+        ensures kept { OnErr result (self.new ≡ self.old) }
+    {
+        if !self.allows_sub_link(process, i) {
+            return Err(Illegal::Condition);
+        }
+        if !self.answers_sub_link(reply) {
+            return Err(Illegal::Reply);
+        }
+        let links = self.links_of(i);
+        self.set_links(alloc, i, links.saturating_sub(1));
+        self.clear_pending(process);
+        Ok(())
+    }
+
+    pub(crate) fn answers_trunc(&self, i: u16, reply: &Reply) -> bool
+        ensures { result ≡ trunc_replies self.now i reply.now }
+    {
+        let is_directory = self.is_directory(i);
+        match reply {
+            Reply::IsDir => is_directory,
+            Reply::Done => !is_directory,
+            Reply::Fault => true,
+            _ => false,
+        }
+    }
+
+    // Trunc: a regular file loses its bytes.
+    pub(crate) fn step_trunc(
+        &mut self,
+        alloc: Global,
+        process: u8,
+        i: u16,
+        reply: &Reply,
+    ) -> Result<(), Illegal>
+        requires { IsWhole self.old }
+        ensures taken { OnOk result (IsTaken self.old process (op.Trunc i) reply.now self.new) }
+        ensures refused { IfErr result (IsRefused self.old process (op.Trunc i) reply.now) }
+        ensures kept { OnErr result (self.new ≡ self.old) }
+    {
+        if !self.has_reference(process, i) {
+            return Err(Illegal::Condition);
+        }
+        if !self.answers_trunc(i, reply) {
+            return Err(Illegal::Reply);
+        }
+        match reply {
+            Reply::Done => {
+                self.empty_node(alloc, i);
+                Ok(())
+            }
+            _ => Ok(()),
+        }
     }
 }

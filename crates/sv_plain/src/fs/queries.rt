@@ -2,7 +2,7 @@
 ghost use Rattle.std.specs.Prelude.{◌≡◌, option_copied};
 ghost use Rattle.std.specs.FinMap as map;
 ghost use Rattle.sv_plain.specs.Totals.{at_or_0};
-ghost use Rattle.sv_plain.specs.Fs.{is_referenced, is_full_for};
+ghost use Rattle.sv_plain.specs.Fs.{holders, is_referenced, is_full_for};
 ghost use Rattle.sv_plain.specs.Names.{references_of, has_reference, promise_of, is_pending, is_directory, links_of, is_table_full, is_idle};
 ghost use Rattle.sv_plain.specs.Step.{has_file};
 
@@ -24,6 +24,13 @@ impl Fs {
         ensures { result ≡ has_reference self.now process i }
     {
         self.references_of(process, i) != 0
+    }
+
+    // How many processes and files refer to inode i.
+    pub(crate) fn holder_count(&self, i: u16) -> u64
+        ensures { result ≡ holders self.now.references self.now.files i }
+    {
+        self.holders.count(i)
     }
 
     // A process or a file refers to inode i.
