@@ -136,7 +136,7 @@ holders-file references files n f j =
     let changed = total-insert nat_cmp_total nat_cmp-IsAntisymmetric (λ (_ : ℕ) (g : Opening). one_if (g.inode == j)) files n f in
     omega (arith, changed)
 
-holders-file_gone : (references : References) (files : Files) (n j : ℕ)
+pub holders-file_gone : (references : References) (files : Files) (n j : ℕ)
     → holders references (map.remove files n) j + at_or_0 (λ g. one_if (g.inode == j)) (map.get files n) ≡ holders references files j
 unfolding holders
 holders-file_gone references files n j =

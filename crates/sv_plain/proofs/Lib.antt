@@ -32,6 +32,7 @@ pub mod KeepsWrite
 pub mod MadeDirectory
 pub mod NameEntries
 pub mod PagesPut
+pub mod LastHolder
 pub mod LowestUnused
 pub mod Shown
 pub mod StepBounds

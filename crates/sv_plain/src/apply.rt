@@ -2,3 +2,4 @@
 mod files;
 mod links;
 mod promises;
+mod removal;

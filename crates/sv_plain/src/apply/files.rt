@@ -1,12 +1,16 @@
 // Open files: opening, sharing, seeking and closing.
-ghost use Rattle.std.specs.Prelude.{◌≡◌, ◌==◌, not};
+ghost use Rattle.std.specs.Prelude.{◌≡◌, ◌+◌, ◌==◌, not, true, OnOk, OnErr, IfErr};
+ghost use Rattle.sv_plain.specs.declared.op.Op.TheVariants as op;
+ghost use Rattle.sv_plain.specs.Change.{changed_file, with_offset};
+ghost use Rattle.sv_plain.specs.Taken.{IsTaken, IsRefused};
+ghost use Rattle.sv_plain.specs.Whole.{IsWhole};
 ghost use Rattle.std.specs.List.{count_by, range_with_len};
 ghost use Rattle.std.specs.FinMap as map;
 ghost use Rattle.sv_plain.specs.Totals.{at_or_0};
-ghost use Rattle.sv_plain.specs.Step.{open_allowed, open_replies, dup_replies, seek_allowed, seek_replies, seek_base, reads, writes};
+ghost use Rattle.sv_plain.specs.Step.{open_allowed, open_replies, dup_replies, has_file, seek_allowed, seek_replies, seek_base, reads, writes};
 ghost use Rattle.sv_plain.specs.Names.{is_lowest_unused};
 
-use crate::{Fs, Mode, Reply};
+use crate::{Fs, Illegal, Mode, NoMemory, Opening, Reply};
 
 // How many files the table has at most.
 const MOST_FILES: usize = 640;
@@ -104,6 +108,119 @@ impl Fs {
             Reply::Bad => !is_within,
             Reply::At(n) => is_within && i128::from(*n) == target,
             _ => false,
+        }
+    }
+
+    // Moves the offset of a file that is there.
+    pub(crate) fn set_offset(&mut self, n: u16, offset: u32)
+        requires { has_file self.old n ≡ true }
+        ensures { self.new ≡ record self.old { files = changed_file self.old n (with_offset offset) } }
+    {
+        if let Some(opening) = self.file(n) {
+            self.replace_file(n, Opening { offset, ..opening });
+        }
+    }
+
+    // Shares a file that is there once more. A count at its type's end is refused like want of memory.
+    fn share(&mut self, n: u16) -> Result<(), NoMemory>
+        requires { has_file self.old n ≡ true }
+        ensures shared { OnOk result (self.new ≡ record self.old { files = changed_file self.old n (λ f. record f { count = f.count + 1 }) }) }
+        ensures refused { OnErr result (self.new ≡ self.old) }
+    {
+        let Some(opening) = self.file(n) else {
+            return Err(NoMemory);
+        };
+        let Some(count) = opening.count.checked_add(1) else {
+            return Err(NoMemory);
+        };
+        self.replace_file(n, Opening { count, ..opening });
+        Ok(())
+    }
+
+    // OpenFile: the reference becomes the file's.
+    pub(crate) fn step_open(
+        &mut self,
+        process: u8,
+        i: u16,
+        mode: Mode,
+        reply: &Reply,
+    ) -> Result<(), Illegal>
+        requires { IsWhole self.old }
+        ensures taken { OnOk result (IsTaken self.old process (op.OpenFile i mode) reply.now self.new) }
+        ensures refused { IfErr result (IsRefused self.old process (op.OpenFile i mode) reply.now) }
+        ensures kept { OnErr result (self.new ≡ self.old) }
+    {
+        if !self.allows_open(process, i) {
+            return Err(Illegal::Condition);
+        }
+        if !self.answers_open(i, mode, reply) {
+            return Err(Illegal::Reply);
+        }
+        match reply {
+            Reply::Opened(n) => {
+                let opening = Opening {
+                    inode: i,
+                    mode,
+                    offset: 0,
+                    count: 1,
+                };
+                let Ok(()) = self.add_file(*n, opening) else {
+                    return Err(Illegal::NoMemory);
+                };
+                self.remove_reference(process, i);
+                Ok(())
+            }
+            _ => Ok(()),
+        }
+    }
+
+    // DupFile: one descriptor more shares the file.
+    pub(crate) fn step_dup(&mut self, process: u8, file: u16, reply: &Reply) -> Result<(), Illegal>
+        requires { IsWhole self.old }
+        ensures taken { OnOk result (IsTaken self.old process (op.DupFile file) reply.now self.new) }
+        ensures refused { IfErr result (IsRefused self.old process (op.DupFile file) reply.now) }
+        ensures kept { OnErr result (self.new ≡ self.old) }
+    {
+        if !self.has_file(file) {
+            return Err(Illegal::Condition);
+        }
+        match reply {
+            Reply::Dupped => {
+                let Ok(()) = self.share(file) else {
+                    return Err(Illegal::NoMemory);
+                };
+                Ok(())
+            }
+            _ => Err(Illegal::Reply),
+        }
+    }
+
+    // Seek: the file's offset moves, unless it would leave what a file may have.
+    pub(crate) fn step_seek(
+        &mut self,
+        process: u8,
+        file: u16,
+        offset: i64,
+        whence: u8,
+        reply: &Reply,
+    ) -> Result<(), Illegal>
+        requires { IsWhole self.old }
+        ensures taken { OnOk result (IsTaken self.old process (op.Seek file offset whence) reply.now self.new) }
+        ensures refused { IfErr result (IsRefused self.old process (op.Seek file offset whence) reply.now) }
+        ensures kept { OnErr result (self.new ≡ self.old) }
+    {
+        if !self.allows_seek(file, whence) {
+            return Err(Illegal::Condition);
+        }
+        if !self.answers_seek(file, offset, whence, reply) {
+            return Err(Illegal::Reply);
+        }
+        match reply {
+            Reply::At(n) => {
+                self.set_offset(file, *n);
+                Ok(())
+            }
+            _ => Ok(()),
         }
     }
 }
