@@ -34,6 +34,9 @@ pub mod NameEntries
 pub mod PagesPut
 pub mod LastHolder
 pub mod LowestUnused
+pub mod NameBytes
+pub mod Places
+pub mod SameBytes
 pub mod Shown
 pub mod StepBounds
 pub mod Totals

@@ -5,6 +5,9 @@ ghost use Rattle.sv_form.specs.Node.{blocks_at};
 ghost use Rattle.sv_plain.specs.Blocks.{with_blocks};
 ghost use Rattle.sv_plain.specs.Fs.{with_page};
 
+mod bytes;
+mod entries;
+
 use crate::blocks::put_page_blocks;
 use crate::{NoMemory, NumberMap, PairSet};
 use std::alloc::Global;

@@ -15,7 +15,7 @@ use crate::{Fs, Illegal, Mode, NoMemory, Opening, Reply};
 // How many files the table has at most.
 const MOST_FILES: usize = 640;
 
-fn reads(mode: Mode) -> bool
+pub(crate) fn reads(mode: Mode) -> bool
     ensures { result ≡ reads mode }
 {
     match mode {
@@ -25,7 +25,7 @@ fn reads(mode: Mode) -> bool
     }
 }
 
-fn writes(mode: Mode) -> bool
+pub(crate) fn writes(mode: Mode) -> bool
     ensures { result ≡ writes mode }
 {
     match mode {

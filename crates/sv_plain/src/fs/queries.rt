@@ -1,13 +1,13 @@
 // What steps ask of the file system: each costs a logarithm in what it holds.
-ghost use Rattle.std.specs.Prelude.{◌≡◌, option_copied};
+ghost use Rattle.std.specs.Prelude.{◌≡◌, ◌≤◌};
 ghost use Rattle.std.specs.FinMap as map;
 ghost use Rattle.sv_plain.specs.Totals.{at_or_0};
 ghost use Rattle.sv_plain.specs.Fs.{holders, is_referenced, is_full_for};
-ghost use Rattle.sv_plain.specs.Names.{references_of, has_reference, promise_of, is_pending, is_directory, links_of, is_table_full, is_idle};
+ghost use Rattle.sv_plain.specs.Names.{references_of, has_reference, promise_of, is_pending, is_directory, links_of, is_table_full, is_idle, is_open_to_names, child};
 ghost use Rattle.sv_plain.specs.Step.{has_file};
 
 use crate::{Fs, Opening};
-use sv_form::Kind;
+use sv_form::{Kind, Name};
 
 impl Fs {
     // How many references the process has to inode i.
@@ -83,11 +83,36 @@ impl Fs {
         }
     }
 
+    // How many bytes a block has.
+    pub(crate) fn block_size(&self) -> u32
+        ensures same { result ≡ self.now.block }
+        ensures some { 4 ≤ result }
+    {
+        self.block_size
+    }
+
     // The greatest size of a file in bytes.
     pub(crate) fn greatest(&self) -> u32
         ensures { result ≡ self.now.greatest }
     {
         self.greatest
+    }
+
+    // A directory that has links, so that names can be looked up and entered.
+    pub(crate) fn is_open_to_names(&self, d: u16) -> bool
+        ensures { result ≡ is_open_to_names self.now d }
+    {
+        self.is_directory(d) && self.links_of(d) != 0
+    }
+
+    // The inode that a name in directory d leads to.
+    pub(crate) fn child(&self, d: u16, name: &Name) -> Option<u16>
+        ensures { result ≡ child self.now d name.now }
+    {
+        let Some(node) = self.nodes.get(u32::from(d)) else {
+            return None;
+        };
+        node.child_of(self.block_size, name.as_slice())
     }
 
     pub(crate) fn promise_of(&self, process: u8) -> u32

@@ -1,0 +1,139 @@
+// The bytes of a node, and the entries of a directory among them.
+ghost use Rattle.std.specs.Prelude.{◌≡◌, ◌<◌, ◌≤◌, ◌+◌, ◌*◌, not, drop};
+ghost use Rattle.sv_form.specs.Node.{byte_of, bytes_of, until_zero, entry_inode, entry_name, entry_count};
+ghost use Rattle.sv_plain.specs.Names.{same_bytes, is_entry, place_of, empty_place, child_of, has_more};
+
+use crate::Node;
+
+// How many bytes an entry has, and how many of them its name.
+const ENTRY: u32 = 16;
+
+const NAME: u32 = 14;
+
+impl Node {
+    // Byte k of the node. A block has so many bytes.
+    #[tactic(auto, unfolding(sv_form::specs::Node::byte_of))]
+    pub(crate) fn byte(&self, block: u32, k: u32) -> u8
+        requires { 0 < block }
+        ensures { result ≡ byte_of block self.now k }
+    {
+        let Some(page) = self.page(k / block) else {
+            return 0;
+        };
+        match page.get((k % block) as usize) {
+            Some(byte) => *byte,
+            None => 0,
+        }
+    }
+
+    pub(crate) fn entry_count(&self) -> u32
+        ensures { result ≡ entry_count self.now }
+    {
+        self.size / ENTRY
+    }
+
+    // Where the bytes of entry j begin.
+    fn place_in_bytes(&self, j: u32) -> u32
+        requires { j < entry_count self.now }
+        ensures begins { result ≡ 16 * j }
+        ensures ends { result + 16 ≤ 4294967295 }
+    {
+        let last = self.size / ENTRY - 1;
+        ENTRY * j.min(last)
+    }
+
+    // The number in entry j.
+    #[tactic(auto, unfolding(sv_form::specs::Node::entry_inode))]
+    pub(crate) fn entry_inode(&self, block: u32, j: u32) -> u16
+        requires some { 0 < block }
+        requires within { j < entry_count self.now }
+        ensures { result ≡ entry_inode block self.now j }
+    {
+        let first = self.place_in_bytes(j);
+        let low = self.byte(block, first);
+        let high = self.byte(block, first + 1);
+        u16::from(low) + 256 * u16::from(high)
+    }
+
+    // Entry j has this name in its last fourteen bytes, whose first zero ends it.
+    fn has_name(&self, block: u32, j: u32, name: &[u8]) -> bool
+        requires some { 0 < block }
+        requires within { j < entry_count self.now }
+        ensures { result ≡ same_bytes (entry_name block self.now j) name.now }
+    {
+        let first = self.place_in_bytes(j) + 2;
+        for k in 0..NAME {
+            let byte = self.byte(block, first + k);
+            let place = k as usize;
+            if place == name.len() {
+                return byte == 0;
+            }
+            if byte == 0 {
+                return false;
+            }
+            if byte != name[place] {
+                return false;
+            }
+        }
+        name.len() == NAME as usize
+    }
+
+    // Entry j is not empty, and has this name.
+    fn is_entry(&self, block: u32, j: u32, name: &[u8]) -> bool
+        requires some { 0 < block }
+        requires within { j < entry_count self.now }
+        ensures { result ≡ is_entry block self.now name.now j }
+    {
+        self.entry_inode(block, j) != 0 && self.has_name(block, j, name)
+    }
+
+    // The first entry with this name.
+    pub(crate) fn place_of(&self, block: u32, name: &[u8]) -> Option<u32>
+        requires { 0 < block }
+        ensures { result ≡ place_of block self.now name.now }
+    {
+        for j in 0..self.entry_count() {
+            if self.is_entry(block, j, name) {
+                return Some(j);
+            }
+        }
+        None
+    }
+
+    // The first empty entry.
+    pub(crate) fn empty_place(&self, block: u32) -> Option<u32>
+        requires { 0 < block }
+        ensures { result ≡ empty_place block self.now }
+    {
+        for j in 0..self.entry_count() {
+            if self.entry_inode(block, j) == 0 {
+                return Some(j);
+            }
+        }
+        None
+    }
+
+    // An entry besides the first two is not empty.
+    pub(crate) fn has_more(&self, block: u32) -> bool
+        requires { 0 < block }
+        ensures { result ≡ has_more block self.now }
+    {
+        for j in 2..self.entry_count() {
+            if self.entry_inode(block, j) != 0 {
+                return true;
+            }
+        }
+        false
+    }
+
+    // The inode that the name leads to.
+    pub(crate) fn child_of(&self, block: u32, name: &[u8]) -> Option<u16>
+        requires { 0 < block }
+        ensures { result ≡ child_of block self.now name.now }
+    {
+        let Some(j) = self.place_of(block, name) else {
+            return None;
+        };
+        Some(self.entry_inode(block, j))
+    }
+}
