@@ -54,7 +54,7 @@ kept-add_node a n kind mode links size absent k = record {
   held = k.held;
 }
 
-some_of : {A : Type 0} (o : Option A) → is_some o ≡ true → (x : A) × (o ≡ Some x)
+pub some_of : {A : Type 0} (o : Option A) → is_some o ≡ true → (x : A) × (o ≡ Some x)
 some_of None e = absurd (false≢true e)
 some_of (Some x) e = (x, refl)
 

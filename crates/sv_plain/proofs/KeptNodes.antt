@@ -1,5 +1,5 @@
 -- What is kept beside the maps stays true as nodes change.
-use Rattle.std.proofs.Common.{◌≡◌, ◌≤◌, ℕ, ◌+◌, ◌-◌, Bool, true, false, cond, Option, Some, None, IsSome, List, option_map, sym, refl, ap, subst, ◌∙◌, arith}
+use Rattle.std.proofs.Common.{◌≡◌, ◌≤◌, ℕ, ◌+◌, ◌-◌, Bool, true, false, cond, Option, Some, None, IsSome, List, option_map, option_and_then, sym, refl, ap, subst, ◌∙◌, arith}
 use Rattle.std.specs.Ordering.{nat_cmp, eq_by_cmp}
 use Rattle.std.specs.Cmp.{nat_cmp_total}
 use Rattle.std.specs.FinMap as map
@@ -9,12 +9,12 @@ use Rattle.sv_form.specs.Pair.{pair_cmp}
 use Rattle.sv_form.specs.Node.{Node, block_set, numbers_per, used}
 use Rattle.sv_plain.specs.declared.fs.Fs.TheInside.{Inside}
 use Rattle.sv_plain.specs.Totals.{at_or_0}
-use Rattle.sv_plain.specs.Fs.{used_by_all, changed, insert_some}
+use Rattle.sv_plain.specs.Fs.{used_by_all, changed, insert_some, with_page}
 use Rattle.sv_plain.specs.Change.{with_links, emptied}
 use Rattle.sv_plain.specs.Keeping.{IsKept, AreBlocksOf}
-use Rattle.sv_plain.proofs.Undone.{insert-known}
-use Rattle.sv_plain.proofs.Used.{used-none, used_by_all-insert, block_set-empty}
-use Rattle.sv_plain.proofs.Kept.{its_blocks, blocks-insert}
+use Rattle.sv_plain.proofs.Undone.{insert-known, insert-insert, insert-remove}
+use Rattle.sv_plain.proofs.Used.{used-none, used_by_all-insert, block_set-empty, block_set-insert}
+use Rattle.sv_plain.proofs.Kept.{its_blocks, blocks-insert, some_of}
 use Rattle.sv_plain.proofs.Totals.{total-remove}
 
 abbrev pub Nodes : Type 0
@@ -60,11 +60,10 @@ module _ (a : Inside) (n : ℕ) (k : IsKept a) where
     held = k.held;
   }
 
--- a node with the same pages
-pub kept-same_pages : (a : Inside) (n : ℕ) (node other : Node) → map.get a.nodes n ≡ Some node → other.pages ≡ node.pages → IsKept a → IsKept (record a { nodes = map.insert a.nodes n other })
+-- a node that has the same blocks
+kept-same_blocks : (a : Inside) (n : ℕ) (node other : Node) → map.get a.nodes n ≡ Some node → its_blocks a.block_size other ≡ its_blocks a.block_size node → IsKept a → IsKept (record a { nodes = map.insert a.nodes n other })
 unfolding used
-kept-same_pages a n node other there same k =
-    let mine : its_blocks a.block_size other ≡ its_blocks a.block_size node = ap (λ (m : map.FinMap nat_cmp (List ℕ)). block_set (numbers_per a.block_size) (map.keys m)) same in
+kept-same_blocks a n node other there mine k =
     let blocks : map.insert a.blocks n (its_blocks a.block_size other) ≡ a.blocks =
     insert-known nat_cmp_total nat_cmp-IsAntisymmetric a.blocks n (its_blocks a.block_size other) (k.blocks n ∙ ap (option_map (its_blocks a.block_size)) there ∙ ap Some (sym mine)) in
     let before : at_or_0 (used a.block_size) (map.get a.nodes n) ≡ used a.block_size other = ap (at_or_0 (used a.block_size)) there ∙ ap set.len (sym mine) in
@@ -76,6 +75,30 @@ kept-same_pages a n node other there same k =
       taken = k.taken;
       held = k.held;
     }
+
+-- a node with the same pages
+pub kept-same_pages : (a : Inside) (n : ℕ) (node other : Node) → map.get a.nodes n ≡ Some node → other.pages ≡ node.pages → IsKept a → IsKept (record a { nodes = map.insert a.nodes n other })
+kept-same_pages a n node other there same k =
+    kept-same_blocks a n node other there (ap (λ (m : map.FinMap nat_cmp (List ℕ)). block_set (numbers_per a.block_size) (map.keys m)) same) k
+
+-- other bytes in a page that is there take the same blocks
+same_keys : (per : ℕ) (m : map.FinMap nat_cmp (List ℕ)) (p : ℕ) (old new : List ℕ) → map.get m p ≡ Some old → block_set per (map.keys (map.insert m p new)) ≡ block_set per (map.keys m)
+same_keys per m p old new there =
+    let back : map.insert (map.remove m p) p old ≡ m = insert-remove nat_cmp_total nat_cmp-IsAntisymmetric m p old there in
+    let forth : map.insert (map.remove m p) p new ≡ map.insert m p new =
+    sym (insert-insert nat_cmp_total nat_cmp-IsAntisymmetric (map.remove m p) p old new) ∙ ap (λ k. map.insert k p new) back in
+    ap (λ k. block_set per (map.keys k)) (sym forth)
+    ∙ block_set-insert per (map.remove m p) p new
+    ∙ sym (block_set-insert per (map.remove m p) p old)
+    ∙ ap (λ k. block_set per (map.keys k)) back
+
+pub kept-replaced : (a : Inside) (n page : ℕ) (old new : List ℕ) (node : Node) → map.get a.nodes n ≡ Some node → map.get node.pages page ≡ Some old → IsKept a → IsKept (record a { nodes = map.insert a.nodes n (with_page page new node) })
+kept-replaced a n page old new node there known k =
+    kept-same_blocks a n node (with_page page new node) there (same_keys (numbers_per a.block_size) node.pages page old new known) k
+
+-- the page of a node that is there
+pub page-there : (o : Option Node) (page : ℕ) (node : Node) → o ≡ Some node → IsSome (option_and_then (λ (n : Node). map.get n.pages page) o) → (old : List ℕ) × (map.get node.pages page ≡ Some old)
+page-there o page node there known = some_of (map.get node.pages page) (subst (λ (o : Option Node). IsSome (option_and_then (λ (n : Node). map.get n.pages page) o)) there known)
 
 -- a node without pages in place of another
 pub kept-emptied : (a : Inside) (n : ℕ) (node : Node) → node.pages ≡ map.empty → IsKept a

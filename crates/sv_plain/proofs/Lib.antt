@@ -1,4 +1,5 @@
 pub mod Beginnings
+pub mod ClearedEntry
 pub mod Counts
 pub mod DirectoryPut
 pub mod EntriesFew

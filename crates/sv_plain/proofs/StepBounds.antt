@@ -1,5 +1,5 @@
 -- What a step touches is there.
-use Rattle.std.proofs.Common.{◌≡◌, ◌≤◌, ℕ, ◌==◌, ◌&&◌, true, false, not, List, Option, Some, None, IsSome, option_map, sym, refl, ap, subst, ◌∙◌}
+use Rattle.std.proofs.Common.{◌≡◌, ◌≤◌, ℕ, ◌==◌, ◌&&◌, Bool, true, false, not, List, Option, Some, None, IsSome, option_map, sym, refl, ap, subst, ◌∙◌}
 use Rattle.std.proofs.lemmas.Bool.{false≢true, eqb-true}
 use Rattle.std.specs.FinMap as map
 use Rattle.sv_plain.specs.declared.opening.Opening.{Opening}
@@ -34,3 +34,14 @@ file-within fs n f w there = number_within fs f.inode w (w.files n f there).ther
 -- what is changed of a file that is there
 pub file-changed : (fs : Fs) (n : ℕ) (g : Opening) (f : Opening → Opening) → map.get fs.files n ≡ Some g → map.insert fs.files n (f g) ≡ changed_file fs n f
 file-changed fs n g f there = sym (ap (at_file fs.files n f) there)
+
+-- what a name leads to is a node, whatever else is tested of it
+pub child-is : (fs : Fs) (d : ℕ) (name : List ℕ) (i : ℕ) (test : ℕ → Bool) → IsWhole fs → child_passes fs d name test ≡ true → ((c : ℕ) → test c ≡ true → c ≡ i)
+    → (is_open_to_names fs d ≡ true) × IsSome (child fs d name) × IsSome (map.get fs.nodes i)
+child-is fs d name i test w right same =
+    let opened = and_left (is_open_to_names fs d) (some_and (child fs d name) test) right in
+    let c = passes (child fs d name) test (and_right (is_open_to_names fs d) _ right) in
+    (opened, subst IsSome (sym c.1) refl, child-there fs d name i w opened (c.1 ∙ ap Some (same c.0 c.2)))
+
+pub the_child : (c i : ℕ) (more : Bool) → ((c == i) && more) ≡ true → c ≡ i
+the_child c i more e = eqb-true c i (and_left (c == i) more e)

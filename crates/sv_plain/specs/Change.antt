@@ -15,10 +15,12 @@ use Rattle.sv_plain.specs.Needs.{touched}
 
 -- ---- the bytes of a node
 
--- a page once `bytes` were put at `at`
+-- byte k once `bytes` were put at `at`, and a page then
+abbrev pub byte_after : ℕ → Node → ℕ → List ℕ → ℕ → ℕ
+byte_after block node at bytes k = if nat_le at k && nat_lt k (at + length bytes) then slice_index bytes (k - at) else byte_of block node k
+
 abbrev pub page_after : ℕ → Node → ℕ → List ℕ → ℕ → List ℕ
-page_after block node at bytes page =
-    map (λ k. if nat_le at k && nat_lt k (at + length bytes) then slice_index bytes (k - at) else byte_of block node k) (range_with_len (page * block) block)
+page_after block node at bytes page = map (byte_after block node at bytes) (range_with_len (page * block) block)
 
 abbrev pub with_pages : fmap.FinMap nat_cmp (List ℕ) → (ℕ → List ℕ) → List ℕ → fmap.FinMap nat_cmp (List ℕ)
 with_pages pages f [] = pages

@@ -7,6 +7,7 @@ ghost use Rattle.sv_plain.specs.Fs.{with_page};
 
 mod bytes;
 mod entries;
+mod pages;
 
 use crate::blocks::put_page_blocks;
 use crate::{NoMemory, NumberMap, PairSet};

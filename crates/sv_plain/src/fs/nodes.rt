@@ -3,12 +3,12 @@ ghost use Rattle.std.specs.Prelude.{◌≡◌, IsSome};
 ghost use Rattle.std.specs.FinMap as map;
 ghost use Rattle.std.specs.FinSet as set;
 ghost use Rattle.sv_plain.specs.Totals.{at_or_0};
-ghost use Rattle.sv_plain.specs.Fs.{changed};
+ghost use Rattle.sv_plain.specs.Fs.{changed, page_of, with_page_of};
 ghost use Rattle.sv_plain.specs.Change.{with_links, emptied, without_node};
 
 use crate::{Fs, Node, NumberMap, PairSet};
 use std::alloc::Global;
-use sv_form::Kind;
+use sv_form::{Bytes, Kind};
 
 // How many blocks stand at the key, and none where there is no set of them.
 fn count_of(blocks: &NumberMap<PairSet>, key: u32) -> usize
@@ -57,5 +57,17 @@ impl Fs {
         self.used -= blocks.len() as u64;
         let mut empty = Node::new(alloc, node.kind, node.mode, node.links, 0);
         self.nodes.swap(key, &mut empty);
+    }
+
+    // Other bytes in a page of a node. Both are there.
+    pub(crate) fn replace_page(&mut self, alloc: Global, i: u16, page: u32, bytes: Bytes)
+        requires { IsSome (page_of self.old i page) }
+        ensures { self.new ≡ with_page_of self.old i page bytes }
+    {
+        let key = u32::from(i);
+        let mut node = Node::new(alloc, Kind::File, 0, 0, 0);
+        self.nodes.swap(key, &mut node);
+        node.replace_page(page, bytes);
+        self.nodes.swap(key, &mut node);
     }
 }

@@ -4,7 +4,7 @@ ghost use Rattle.std.specs.FinMap as map;
 ghost use Rattle.sv_plain.specs.Totals.{at_or_0};
 ghost use Rattle.sv_plain.specs.Fs.{holders, is_referenced, is_full_for};
 ghost use Rattle.sv_plain.specs.Names.{references_of, has_reference, promise_of, is_pending, is_directory, links_of, is_table_full, is_idle, is_open_to_names, child};
-ghost use Rattle.sv_plain.specs.Step.{has_file};
+ghost use Rattle.sv_plain.specs.Step.{has_file, is_in_use};
 
 use crate::{Fs, Opening};
 use sv_form::{Kind, Name};
@@ -113,6 +113,16 @@ impl Fs {
             return None;
         };
         node.child_of(self.block_size, name.as_slice())
+    }
+
+    // Directory i has an entry besides the first two.
+    pub(crate) fn is_in_use(&self, i: u16) -> bool
+        ensures { result ≡ is_in_use self.now i }
+    {
+        match self.nodes.get(u32::from(i)) {
+            Some(node) => node.has_more(self.block_size),
+            None => false,
+        }
     }
 
     pub(crate) fn promise_of(&self, process: u8) -> u32

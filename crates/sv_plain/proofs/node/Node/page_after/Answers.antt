@@ -1,0 +1,14 @@
+use Rattle.std.proofs.Common.{◌≡◌, ◌+◌, ◌*◌, ◌∷◌, [], ◌++◌, map, sym, refl, ap, ◌∙◌}
+use Rattle.std.proofs.lemmas.List.FromFn.{map-range_with_len_more}
+use Rattle.std.specs.List.{range_with_len}
+use Rattle.sv_plain.specs.Change.{byte_after}
+use Rattle.sv_plain.proofs.node.Node.page_after.Goals as goal
+
+pub loop-r-preserved : goal.loop-r-preserved
+loop-r-preserved c =
+    let f = byte_after c.args.block c.args.self.now c.args.at c.args.bytes.now in
+    let first = c.args.page * c.args.block in
+    c.in_ok-push.ensures.items
+    ∙ ap (λ xs. xs ++ c.byte_after.result ∷ []) c.loop-r.invariant
+    ∙ ap (λ b. map f (range_with_len first c.loop-r.r) ++ b ∷ []) c.byte_after.ensures
+    ∙ sym (map-range_with_len_more f first c.loop-r.r (first + c.loop-r.r) refl)
