@@ -5,6 +5,7 @@ pub mod DirectoryPut
 pub mod EntriesFew
 pub mod EntryPut
 pub mod EntryRoom
+pub mod FirstReferences
 pub mod Got
 pub mod Holders
 pub mod Kept

@@ -11,6 +11,7 @@
 #![tactic(auto)]
 
 mod apply;
+mod beginning;
 mod blocks;
 mod entry;
 mod fs;
@@ -29,6 +30,7 @@ mod reply;
 #[cfg(test)]
 mod tests;
 
+pub use beginning::begin;
 pub use entry::Entry;
 pub use fs::Fs;
 pub(crate) use holder_counts::HolderCounts;

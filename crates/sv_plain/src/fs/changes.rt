@@ -5,7 +5,8 @@ ghost use Rattle.sv_plain.specs.Names.{promise_of, has_reference};
 ghost use Rattle.sv_plain.specs.Change.{with_reference, without_reference, spent};
 ghost use Rattle.sv_plain.specs.declared.opening.Opening as opening;
 
-use crate::{Fs, NoMemory, Opening};
+use crate::{Fs, HolderCounts, NoMemory, Opening, PairMap};
+use std::alloc::Global;
 
 impl Fs {
     // One reference more. A count at its type's end is refused like want of memory.
@@ -135,5 +136,21 @@ impl Fs {
         ensures { self.new ≡ record self.old { pending = map.remove self.old.pending process } }
     {
         self.pending.remove(u32::from(process));
+    }
+
+    // A table of so many places for in-core inodes.
+    pub(crate) fn set_places(&mut self, places: u32)
+        ensures { self.new ≡ record self.old { places = places } }
+    {
+        self.places = places;
+    }
+
+    // Nothing is referred to any more, where no file is open.
+    pub(crate) fn forget_references(&mut self, alloc: Global)
+        requires { self.old.files ≡ map.empty }
+        ensures { self.new ≡ record self.old { references = map.empty } }
+    {
+        self.references = PairMap::new(alloc);
+        self.holders = HolderCounts::new(alloc);
     }
 }

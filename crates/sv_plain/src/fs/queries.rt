@@ -83,6 +83,13 @@ impl Fs {
         }
     }
 
+    // How many places the table of in-core inodes has.
+    pub(crate) fn places(&self) -> u32
+        ensures { result ≡ self.now.places }
+    {
+        self.places
+    }
+
     // How many bytes a block has.
     pub(crate) fn block_size(&self) -> u32
         ensures same { result ≡ self.now.block }
