@@ -37,6 +37,7 @@ pub mod PagesPut
 pub mod LastHolder
 pub mod LowestUnused
 pub mod NameBytes
+pub mod OpenedInodes
 pub mod Places
 pub mod SameBytes
 pub mod Shown

@@ -44,7 +44,7 @@ module _ {K X : Type 0} {R : K → K → Ordering} (o : IsTotalOrder R) where
       ∙ sym (map.get-remove o (shown m) k q))
 
   -- the first of strictly rising keys is none of the others
-  not_after : (q : K) (es : List (K × X)) → AllByRecursion (λ y. R q y ≡ Less) (keys_of es) → find R q es ≡ None
+  pub not_after : (q : K) (es : List (K × X)) → AllByRecursion (λ y. R q y ≡ Less) (keys_of es) → find R q es ≡ None
   not_after q [] a = refl
   not_after q (e ∷ es) a = (λ i. cond (is_eq (a.0 i)) (Some e.1) (find R q es)) ∙ not_after q es a.1
 

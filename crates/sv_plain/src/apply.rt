@@ -5,3 +5,4 @@ mod names;
 mod promises;
 mod reads;
 mod removal;
+mod stat;

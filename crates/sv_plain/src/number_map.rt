@@ -1,9 +1,12 @@
 // A map from numbers, kept in a tree.
-ghost use Rattle.std.specs.Prelude.{◌≡◌, IsOk, IsSome, IfOk, OnOk, OnErr, option_copied, is_some};
+ghost use Rattle.std.specs.Prelude.{◌≡◌, ◌==◌, not, IsOk, IsSome, IfOk, OnOk, OnErr, option_copied, is_some};
 ghost use Rattle.std.specs.Ordering.{nat_cmp};
 ghost use Rattle.std.specs.FinMap as map;
+ghost use Rattle.std.specs.List.{list_any};
+ghost use Rattle.std.specs.Map.{values_of};
+ghost use Rattle.sv_plain.specs.Totals.{total, one_if};
 
-use crate::NoMemory;
+use crate::{NoMemory, Opening};
 use std::alloc::Global;
 use std::collections::BTreeMap;
 use std::marker::Model;
@@ -85,5 +88,22 @@ impl<V: Drop> NumberMap<V> {
         ensures { self.new ≡ map.remove self.old key }
     {
         self.tree.remove(&key);
+    }
+}
+
+// A file of the tree has inode i.
+fn has_file_of(tree: &BTreeMap<u32, Opening>, i: u16) -> bool
+    ensures { result ≡ list_any (λ f. f.inode == i) (values_of tree.now.entries) }
+{
+    tree.values().any(|file| file.inode == i)
+}
+
+impl NumberMap<Opening> {
+    /// A file of the map has inode i. This walks the files, of which a file table has few.
+    pub(crate) fn has_inode(&self, i: u16) -> bool
+        ensures { result ≡ not (total (λ _ f. one_if (f.inode == i)) self.now == 0) }
+    {
+        let _len = self.tree.len();
+        has_file_of(&self.tree, i)
     }
 }

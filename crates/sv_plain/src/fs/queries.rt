@@ -3,7 +3,7 @@ ghost use Rattle.std.specs.Prelude.{◌≡◌, ◌≤◌};
 ghost use Rattle.std.specs.FinMap as map;
 ghost use Rattle.sv_plain.specs.Totals.{at_or_0};
 ghost use Rattle.sv_plain.specs.Fs.{holders, is_referenced, is_full_for};
-ghost use Rattle.sv_plain.specs.Names.{references_of, has_reference, promise_of, is_pending, is_directory, links_of, is_table_full, is_idle, is_open_to_names, child};
+ghost use Rattle.sv_plain.specs.Names.{references_of, has_reference, promise_of, is_pending, is_directory, links_of, is_table_full, is_idle, is_opened, is_open_to_names, child};
 ghost use Rattle.sv_plain.specs.Step.{has_file, is_in_use};
 
 use crate::{Fs, Opening};
@@ -179,6 +179,13 @@ impl Fs {
         ensures { result ≡ map.len self.now.files }
     {
         self.files.len()
+    }
+
+    // A file of the file table has inode i.
+    pub(crate) fn is_opened(&self, i: u16) -> bool
+        ensures { result ≡ is_opened self.now i }
+    {
+        self.files.has_inode(i)
     }
 
     // Nothing is referred to.
