@@ -1,2 +1,7 @@
 pub mod LineReads
+mod MadeImages
+mod MadeRows
+mod NestedImages
 pub mod SizeFlaws
+mod SizedImages
+mod SmallImages

@@ -1,3 +1,11 @@
 pub mod Blocks
+pub mod Chain
+pub mod Directories
 pub mod Fault
+pub mod InodeCache
+pub mod InodeList
+pub mod Links
+pub mod PastSize
 pub mod Sizes
+pub mod Sound
+pub mod Walk

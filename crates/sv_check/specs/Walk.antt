@@ -1,0 +1,84 @@
+-- Conditions 6 and 7 of a sound image: the walk over the blocks of all inodes meets data blocks alone, and each once.
+-- The order of the walk is a list, which goes on past a bad number; only what stands before the first bad one counts.
+use Rattle.std.specs.Prelude.{◌==◌, ◌&&◌, ◌+◌, ◌-◌, ◌*◌, ◌^◌, ℕ, zero, suc, Bool, not, List, [], ◌∷◌, map, Option, Some, None, nat_le, nat_lt, filter, flat_map, option_and_then, if◌then◌else◌}
+use Rattle.std.specs.List.{range_with_len, list_any}
+use Rattle.sv_form.specs.declared.geometry.Geometry.{Geometry}
+use Rattle.sv_form.specs.Image.{block_of, inode_of}
+use Rattle.sv_form.specs.Number.{number32}
+use Rattle.sv_form.specs.PagePath.{block_numbers, first_single, first_double, first_triple}
+use Rattle.sv_plain.specs.Front.{address_of}
+use Rattle.sv_check.specs.InodeList.{used_inodes}
+
+-- a block that an inode reaches: a page at height 0, an indirect block above; and the page, or the first page below it
+pub record Reached : Type 0 where
+  pub height : ℕ
+  pub page : ℕ
+  pub block : ℕ
+
+-- number k of an indirect block
+abbrev pub number_in : List ℕ → ℕ → ℕ
+number_in block k = number32 block (4 * k)
+
+-- the places of an indirect block that hold a number: 0 is a hole
+abbrev pub filled : Geometry → List ℕ → List ℕ
+filled g block = filter (λ k. not (number_in block k == 0)) (range_with_len 0 (block_numbers g))
+
+-- a block at a height, and all that is below it; the numbers of an indirect block follow it at once, in order
+unfoldable pub reached_under : Geometry → List ℕ → ℕ → ℕ → ℕ → List Reached
+reached_under g image zero page b = record { height = 0; page = page; block = b } ∷ []
+reached_under g image (suc h) page b =
+    record { height = suc h; page = page; block = b }
+    ∷ flat_map (λ k. reached_under g image h (page + k * block_numbers g ^ h) (number_in (block_of g image b) k)) (filled g (block_of g image b))
+
+-- The height of the block at address k: ten of them name pages, and the next three are one, two and three levels above.
+abbrev pub height_of : ℕ → ℕ
+height_of k = k + 1 - first_single
+
+-- the page that address k leads to, or the first of them
+abbrev pub first_page : Geometry → ℕ → ℕ
+first_page g k = if nat_le k first_single then k else (if k == 11 then first_double (block_numbers g) else first_triple (block_numbers g))
+
+-- the addresses of an inode that are not 0
+abbrev pub addressed : List ℕ → List ℕ
+addressed inode = filter (λ k. not (address_of inode k == 0)) (range_with_len 0 13)
+
+-- all blocks that an inode reaches, in the order of its addresses
+unfoldable pub reached : Geometry → List ℕ → List ℕ → List Reached
+reached g image inode = flat_map (λ k. reached_under g image (height_of k) (first_page g k) (address_of inode k)) (addressed inode)
+
+-- a number that the walk meets, and the inode that it belongs to
+pub record Met : Type 0 where
+  pub inode : ℕ
+  pub block : ℕ
+
+-- what the walk meets of inode n
+abbrev pub met_of : Geometry → List ℕ → ℕ → List Met
+met_of g image n = map (λ r. record { inode = n; block = r.block }) (reached g image (inode_of g image n))
+
+-- the walk: the used inodes ascending, and the blocks that each reaches
+unfoldable pub walk : Geometry → List ℕ → List Met
+walk g image = flat_map (met_of g image) (used_inodes g image)
+
+-- b is one of these
+abbrev pub is_among : List ℕ → ℕ → Bool
+is_among numbers b = list_any (λ n. n == b) numbers
+
+abbrev pub is_data_block : Geometry → ℕ → Bool
+is_data_block g b = nat_le g.first_data b && nat_lt b g.blocks
+
+-- b is a data block, and not met before
+abbrev pub is_new : Geometry → List ℕ → ℕ → Bool
+is_new g before b = is_data_block g b && not (is_among before b)
+
+-- the first number that is no data block or was met before, where these were met before the list begins
+unfoldable pub first_bad : Geometry → List ℕ → List Met → Option Met
+first_bad g before [] = None
+first_bad g before (m ∷ rest) = if is_new g before m.block then first_bad g (m.block ∷ before) rest else Some m
+
+-- condition 6, Range: the first bad number is no data block; the place is its inode
+unfoldable pub range_flaw : Geometry → List ℕ → Option ℕ
+range_flaw g image = option_and_then (λ m. if is_data_block g m.block then None else Some m.inode) (first_bad g [] (walk g image))
+
+-- condition 7, Twice: the first bad number is a data block that was met before; the place is this block
+unfoldable pub twice_flaw : Geometry → List ℕ → Option ℕ
+twice_flaw g image = option_and_then (λ m. if is_data_block g m.block then Some m.block else None) (first_bad g [] (walk g image))
