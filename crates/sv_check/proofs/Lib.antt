@@ -1,3 +1,6 @@
+mod AddressSteps
+mod Flaws
+mod InodeSteps
 pub mod LineReads
 mod MadeImages
 mod MadeRows
@@ -5,3 +8,5 @@ mod NestedImages
 pub mod SizeFlaws
 mod SizedImages
 mod SmallImages
+mod WalkSteps
+mod WholeWalk

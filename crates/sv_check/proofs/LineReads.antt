@@ -9,7 +9,7 @@ use Rattle.sv_form.specs.Inode.{IsInode}
 use Rattle.sv_check.specs.Blocks.{ReadsInode}
 
 -- the part of a block that a line is
-line_of-is : (g : Geometry) (image : List ℕ) (p q : Place) → p ≡ q → (block : List ℕ) → block ≡ block_of g image p.block → (l : ℕ) → l ≡ p.line
+pub line_of-is : (g : Geometry) (image : List ℕ) (p q : Place) → p ≡ q → (block : List ℕ) → block ≡ block_of g image p.block → (l : ℕ) → l ≡ p.line
     → slice_range block (64 * l) (64 * l + 64) ≡ line_of g image q
 unfolding line_of
 line_of-is g image p q same block b l at =

@@ -4,7 +4,7 @@ use Rattle.std.specs.List.{range_with_len, list_all}
 use Rattle.sv_form.specs.declared.geometry.Geometry.{Geometry}
 use Rattle.sv_form.specs.Image.{block_of, superblock_of}
 use Rattle.sv_form.specs.Number.{number16, number32}
-use Rattle.sv_check.specs.Walk.{walk, is_among, is_new}
+use Rattle.sv_check.specs.Walk.{walk, is_among, with_met, is_new}
 
 -- the numbers of a list whose count and table stand at these places
 abbrev pub numbers_at : List ℕ → ℕ → ℕ → List ℕ
@@ -48,9 +48,9 @@ unfoldable pub chain : Geometry → List ℕ → List Chained
 chain g image = chain_from g image g.blocks (free_list image)
 
 -- the first number that is no data block or was met before, or whose list does not read
-unfoldable pub first_broken : Geometry → List ℕ → List ℕ → List Chained → Option ℕ
+unfoldable pub first_broken : Geometry → List ℕ → (ℕ → Bool) → List Chained → Option ℕ
 first_broken g image before [] = None
-first_broken g image before (number b ∷ rest) = if is_new g before b then first_broken g image (b ∷ before) rest else Some b
+first_broken g image before (number b ∷ rest) = if is_new g before b then first_broken g image (with_met before b) rest else Some b
 first_broken g image before (list b ∷ rest) = if reads_list (block_of g image b) then first_broken g image before rest else Some b
 
 -- the blocks that the walk meets
@@ -59,7 +59,7 @@ walked g image = map (λ m. m.block) (walk g image)
 
 -- condition 10, FreeChain: where it fails, which is a number, and None where it holds
 unfoldable pub chain_flaw : Geometry → List ℕ → Option ℕ
-chain_flaw g image = first_broken g image (walked g image) (chain g image)
+chain_flaw g image = first_broken g image (is_among (walked g image)) (chain g image)
 
 -- the numbers of a chain
 abbrev pub chained_number : Chained → List ℕ

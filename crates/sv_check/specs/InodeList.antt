@@ -1,5 +1,5 @@
 -- Conditions 4 and 5 of a sound image: each inode reads, and has a size that it may have. Here an inode is its 64 bytes.
-use Rattle.std.specs.Prelude.{◌==◌, ◌&&◌, ◌||◌, ◌/◌, ◌%◌, ℕ, Bool, not, List, Option, slice_index, nat_lt, filter, find}
+use Rattle.std.specs.Prelude.{◌==◌, ◌&&◌, ◌||◌, ◌/◌, ◌%◌, ℕ, Bool, not, List, map, Option, slice_index, nat_lt, filter, find}
 use Rattle.std.specs.List.{range_with_len, list_all}
 use Rattle.sv_form.specs.declared.geometry.Geometry.{Geometry}
 use Rattle.sv_form.specs.Geometry.{inode_count}
@@ -41,6 +41,10 @@ reads_inode inode = is_free inode || ((is_regular inode || is_directory inode) &
 -- the numbers of the inodes that are not free, ascending
 unfoldable pub used_inodes : Geometry → List ℕ → List ℕ
 used_inodes g image = filter (λ n. not (is_free (inode_of g image n))) (inode_numbers g)
+
+-- whether each inode is used, in the order of their numbers
+unfoldable pub used_flags : Geometry → List ℕ → List Bool
+used_flags g image = map (λ n. not (is_free (inode_of g image n))) (inode_numbers g)
 
 -- inode n does not read, or is inode 1 and not free
 abbrev pub is_misread : ℕ → List ℕ → Bool

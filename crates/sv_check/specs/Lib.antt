@@ -6,6 +6,7 @@ pub mod InodeCache
 pub mod InodeList
 pub mod Links
 pub mod PastSize
+pub mod Progress
 pub mod Sizes
 pub mod Sound
 pub mod Walk

@@ -1,5 +1,5 @@
 -- Sound images: the sixteen conditions in order, the first that fails, and what an image stands for.
-use Rattle.std.specs.Prelude.{◌≡◌, ◌⊎◌, ◌==◌, ◌||◌, ◌&&◌, ◌+◌, ◌%◌, ℕ, Bool, not, List, [], ◌∷◌, map, Option, Some, None, unwrap_or, filter, find, if◌then◌else◌}
+use Rattle.std.specs.Prelude.{◌≡◌, ◌⊎◌, ◌==◌, ◌||◌, ◌&&◌, ◌+◌, ◌%◌, ℕ, Bool, List, [], ◌∷◌, map, Option, Some, None, unwrap_or, filter, find, if◌then◌else◌}
 use Rattle.std.specs.List.{list_any}
 use Rattle.std.specs.Ordering.{nat_cmp}
 use Rattle.std.specs.FinMap as fmap
@@ -15,7 +15,7 @@ use Rattle.sv_form.specs.Owners.{owner_of}
 use Rattle.sv_form.specs.Superblock.{IsSuper}
 use Rattle.sv_plain.specs.Front.{size_of}
 use Rattle.sv_check.specs.Sizes.{IsSized, SizesFlaw}
-use Rattle.sv_check.specs.InodeList.{inode_numbers, is_free, is_directory, links_of, used_inodes, kind_flaw, size_flaw}
+use Rattle.sv_check.specs.InodeList.{is_directory, links_of, used_inodes, used_flags, kind_flaw, size_flaw}
 use Rattle.sv_check.specs.Walk.{Reached, reached, range_flaw, twice_flaw}
 use Rattle.sv_check.specs.PastSize.{past_size_flaw, tail_flaw}
 use Rattle.sv_check.specs.Chain.{chain_flaw, lost_flaw}
@@ -55,6 +55,16 @@ pub record IsSound (image : List ℕ) : Type 0 where
   pub sized : IsSized image
   pub others : flaw_from_4 image ≡ None
 
+-- the first nine conditions hold: the sizes, the inodes, and the walk over their blocks
+pub record IsWalked (image : List ℕ) : Type 0 where
+  pub sized : IsSized image
+  pub kind : kind_flaw (geometry_of image) image ≡ None
+  pub size : size_flaw (geometry_of image) image ≡ None
+  pub range : range_flaw (geometry_of image) image ≡ None
+  pub twice : twice_flaw (geometry_of image) image ≡ None
+  pub past_size : past_size_flaw (geometry_of image) image ≡ None
+  pub tail : tail_flaw (geometry_of image) image ≡ None
+
 -- ---- the tree of a sound image
 
 abbrev pub is_page : Reached → Bool
@@ -91,4 +101,4 @@ pub record IsMountedFrom (image : List ℕ) (m : Mounted) : Type 0 where
   pub head : IsSuper (superblock_of image) m.head
   pub table : m.owners.geometry ≡ geometry_of image
   pub owners : (p : Place) → IsPlace (geometry_of image) p → owner_of m.owners p ≡ line_owner (geometry_of image) image p
-  pub used : m.used.items ≡ map (λ n. not (is_free (inode_of (geometry_of image) image n))) (inode_numbers (geometry_of image))
+  pub used : m.used.items ≡ used_flags (geometry_of image) image

@@ -1,12 +1,13 @@
 -- Conditions 6 and 7 of a sound image: the walk over the blocks of all inodes meets data blocks alone, and each once.
 -- The order of the walk is a list, which goes on past a bad number; only what stands before the first bad one counts.
-use Rattle.std.specs.Prelude.{◌==◌, ◌&&◌, ◌+◌, ◌-◌, ◌*◌, ◌^◌, ℕ, zero, suc, Bool, not, List, [], ◌∷◌, map, Option, Some, None, nat_le, nat_lt, filter, flat_map, option_and_then, if◌then◌else◌}
+use Rattle.std.specs.Prelude.{◌≡◌, ◌==◌, ◌&&◌, ◌||◌, ◌+◌, ◌-◌, ◌*◌, ◌^◌, ℕ, zero, suc, Bool, true, false, not, List, [], ◌∷◌, map, Option, Some, None, nat_le, nat_lt, filter, flat_map, option_and_then, if◌then◌else◌}
 use Rattle.std.specs.List.{range_with_len, list_any}
 use Rattle.sv_form.specs.declared.geometry.Geometry.{Geometry}
 use Rattle.sv_form.specs.Image.{block_of, inode_of}
 use Rattle.sv_form.specs.Number.{number32}
 use Rattle.sv_form.specs.PagePath.{block_numbers, first_single, first_double, first_triple}
 use Rattle.sv_plain.specs.Front.{address_of}
+use Rattle.sv_check.specs.declared.met.Met.{Met}
 use Rattle.sv_check.specs.InodeList.{used_inodes}
 
 -- a block that an inode reaches: a page at height 0, an indirect block above; and the page, or the first page below it
@@ -46,11 +47,6 @@ addressed inode = filter (λ k. not (address_of inode k == 0)) (range_with_len 0
 unfoldable pub reached : Geometry → List ℕ → List ℕ → List Reached
 reached g image inode = flat_map (λ k. reached_under g image (height_of k) (first_page g k) (address_of inode k)) (addressed inode)
 
--- a number that the walk meets, and the inode that it belongs to
-pub record Met : Type 0 where
-  pub inode : ℕ
-  pub block : ℕ
-
 -- what the walk meets of inode n
 abbrev pub met_of : Geometry → List ℕ → ℕ → List Met
 met_of g image n = map (λ r. record { inode = n; block = r.block }) (reached g image (inode_of g image n))
@@ -66,19 +62,31 @@ is_among numbers b = list_any (λ n. n == b) numbers
 abbrev pub is_data_block : Geometry → ℕ → Bool
 is_data_block g b = nat_le g.first_data b && nat_lt b g.blocks
 
+-- the numbers that were met, by a test: none, and those before and b
+abbrev pub nothing_met : ℕ → Bool
+nothing_met n = false
+
+abbrev pub with_met : (ℕ → Bool) → ℕ → ℕ → Bool
+with_met before b n = (n == b) || before n
+
 -- b is a data block, and not met before
-abbrev pub is_new : Geometry → List ℕ → ℕ → Bool
-is_new g before b = is_data_block g b && not (is_among before b)
+abbrev pub is_new : Geometry → (ℕ → Bool) → ℕ → Bool
+is_new g before b = is_data_block g b && not (before b)
 
 -- the first number that is no data block or was met before, where these were met before the list begins
-unfoldable pub first_bad : Geometry → List ℕ → List Met → Option Met
+unfoldable pub first_bad : Geometry → (ℕ → Bool) → List Met → Option Met
 first_bad g before [] = None
-first_bad g before (m ∷ rest) = if is_new g before m.block then first_bad g (m.block ∷ before) rest else Some m
+first_bad g before (m ∷ rest) = if is_new g before m.block then first_bad g (with_met before m.block) rest else Some m
 
 -- condition 6, Range: the first bad number is no data block; the place is its inode
 unfoldable pub range_flaw : Geometry → List ℕ → Option ℕ
-range_flaw g image = option_and_then (λ m. if is_data_block g m.block then None else Some m.inode) (first_bad g [] (walk g image))
+range_flaw g image = option_and_then (λ m. if is_data_block g m.block then None else Some m.inode) (first_bad g nothing_met (walk g image))
 
 -- condition 7, Twice: the first bad number is a data block that was met before; the place is this block
 unfoldable pub twice_flaw : Geometry → List ℕ → Option ℕ
-twice_flaw g image = option_and_then (λ m. if is_data_block g m.block then Some m.block else None) (first_bad g [] (walk g image))
+twice_flaw g image = option_and_then (λ m. if is_data_block g m.block then Some m.block else None) (first_bad g nothing_met (walk g image))
+
+-- the condition that a bad number of the walk fails, and the place
+pub record BadFlaw (g : Geometry) (bad : Met) (number place : ℕ) : Type 0 where
+  pub outside : is_data_block g bad.block ≡ false → (number ≡ 6) × (place ≡ bad.inode)
+  pub again : is_data_block g bad.block ≡ true → (number ≡ 7) × (place ≡ bad.block)

@@ -1,4 +1,5 @@
 // Why a check gave no answer.
+use std::alloc::AllocError;
 use sv_dev::Failed;
 
 /// Why a check did not say that the image is sound.
@@ -9,6 +10,17 @@ pub enum CheckFault {
     /// The disk failed.
     Fault,
     NoMemory,
+}
+
+impl From<AllocError> for CheckFault {
+    ghost use Rattle.std.specs.Prelude.{◌≡◌};
+    ghost use Rattle.sv_check.specs.declared.fault.CheckFault.TheVariants.{NoMemory};
+
+    ghost from_gives = { λ _ e. e ≡ NoMemory };
+
+    fn from(_: AllocError) -> Self {
+        CheckFault::NoMemory
+    }
 }
 
 impl From<Failed> for CheckFault {

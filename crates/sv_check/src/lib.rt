@@ -1,15 +1,29 @@
 //! Whether an image is sound. A checker answers Ok exactly where every condition holds, and else the first that fails.
+//! What the sixteen conditions are stands in specs/Sound.antt and the files that it names.
 //!
-//! So far it has the first three conditions: the magic number, the block type and the sizes.
-//!
-//! - `read_sizes` reads the superblock of a disk, or says which of the three conditions fails first, and where.
+//! - `check_walk` decides the first nine conditions: the sizes, the inodes, and the walk over their blocks.
+//! - `read_sizes` decides the first three: it reads the superblock, or says which fails first, and where.
+//! - `read_inode_list` and `walk_blocks` are its two passes; `Walk` is the walk over the blocks of one inode.
 //! - `read_block` and `read_inode` read one block, and one inode, of an image of known sizes.
 #![tactic(auto)]
 
 mod blocks;
+mod check;
 mod fault;
+mod inodes;
+mod met;
 mod sizes;
+mod walk;
+mod whole_walk;
 
 pub use blocks::{read_block, read_inode};
+pub use check::check_walk;
 pub use fault::CheckFault;
+pub use inodes::{InodeList, is_free, read_inode_list};
+pub use met::Met;
 pub use sizes::read_sizes;
+pub use walk::{Walk, block_in_memory};
+pub use whole_walk::{BlockWalk, walk_blocks};
+
+#[cfg(test)]
+mod tests;

@@ -1,0 +1,17 @@
+use Rattle.std.proofs.Common.{◌≡◌, ◌≢◌, ◌≤◌, ◌+◌, length, false, slice_index}
+use Rattle.sv_form.specs.Geometry.{inode_place}
+use Rattle.sv_form.specs.Image.{block_of}
+use Rattle.sv_check.proofs.WholeWalk.{IsAt}
+use Rattle.sv_check.proofs.whole_walk.walk_blocks.Given as goal
+
+abbrev pub invariant-loop-before : goal.invariant-loop-before
+invariant-loop-before g l = record {
+  content : g.D.Disk.content l.disk ≡ g.D.Disk.content l.fn.disk;
+  faults : g.D.Disk.faults l.fn.disk ≤ g.D.Disk.faults l.disk;
+  size : length l.block ≡ l.fn.sizes.block_size;
+  block : l.before ≢ 0 → l.block ≡ block_of l.fn.sizes (g.D.Disk.content l.fn.disk) (inode_place l.fn.sizes l.before).block;
+  owners : length l.walk.owner.items ≡ l.fn.sizes.blocks;
+  no_past : l.walk.past ≡ false;
+  no_tail : l.walk.tail ≡ false;
+  reached : IsAt l.fn.sizes (g.D.Disk.content l.fn.disk) (l.before + 1) (slice_index l.walk.owner.items) l.past l.tail;
+}

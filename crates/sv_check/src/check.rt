@@ -1,0 +1,125 @@
+// The check of an image, condition by condition.
+ghost use Rattle.std.specs.Prelude.{◌≡◌, ◌≤◌, ⊤, None, length, IfOk, IfErr};
+ghost use Rattle.sv_dev.specs.Causes.{Rose};
+ghost use Rattle.sv_form.specs.Image.{geometry_of, superblock_of};
+ghost use Rattle.sv_form.specs.Superblock.{IsSuper};
+ghost use Rattle.sv_check.specs.Fault.{Says};
+ghost use Rattle.sv_check.specs.InodeList.{kind_flaw, size_flaw, used_flags};
+ghost use Rattle.sv_check.specs.PastSize.{past_size_flaw, tail_flaw};
+ghost use Rattle.sv_check.specs.Sizes.{IsSized};
+ghost use Rattle.sv_check.specs.Sound.{Flaw, IsWalked};
+ghost use Rattle.sv_check.specs.Walk.{BadFlaw, first_bad, nothing_met, walk};
+
+use crate::{BlockWalk, CheckFault, Met, read_inode_list, read_sizes, walk_blocks};
+use std::alloc::Global;
+use sv_dev::Disk;
+use sv_form::{Geometry, Super};
+
+/// Decides the first nine conditions of a sound image: the sizes, each inode, and the walk over their blocks. It gives
+/// the superblock where they hold, and says nothing of the others. Each block of the inode list is read twice, each
+/// indirect block and each last page once, and no other page.
+pub fn check_walk<D: Disk>(alloc: Global, disk: &mut D) -> Result<Super, CheckFault>
+    ensures walked { IfOk result (λ s. IsWalked (D.content disk.old)) }
+    ensures head { IfOk result (λ s. IsSuper (superblock_of (D.content disk.old)) s) }
+    ensures err { IfErr result (Says (Flaw (D.content disk.old)) (Rose (D.faults disk.old) (D.faults disk.new)) ⊤) }
+    ensures content { D.content disk.new ≡ D.content disk.old }
+    ensures faults { D.faults disk.old ≤ D.faults disk.new }
+{
+    let head = read_sizes(disk)?;
+    let sizes = head.geometry();
+    let mut block = vec![in alloc; 0; sizes.block_size as usize]?;
+    let _used = check_inodes(alloc, disk, &sizes, &mut block)?;
+    let _walk = check_blocks(alloc, disk, &sizes, &mut block)?;
+    Ok(head)
+}
+
+// The conditions 4 and 5, where the first three hold: whether each inode is used. The slice has a block's length.
+fn check_inodes<D: Disk>(
+    alloc: Global,
+    disk: &mut D,
+    sizes: &Geometry,
+    block: &mut [u8],
+) -> Result<Vec<bool>, CheckFault>
+    requires sized { IsSized (D.content disk.old) }
+    requires sizes { sizes.now ≡ geometry_of (D.content disk.old) }
+    requires block { length block.old ≡ sizes.now.block_size }
+    ensures used { IfOk result (λ u. u.items ≡ used_flags sizes.now (D.content disk.old)) }
+    ensures kind { IfOk result (λ u. kind_flaw (geometry_of (D.content disk.old)) (D.content disk.old) ≡ None) }
+    ensures size { IfOk result (λ u. size_flaw (geometry_of (D.content disk.old)) (D.content disk.old) ≡ None) }
+    ensures err { IfErr result (Says (Flaw (D.content disk.old)) (Rose (D.faults disk.old) (D.faults disk.new)) ⊤) }
+    ensures content { D.content disk.new ≡ D.content disk.old }
+    ensures faults { D.faults disk.old ≤ D.faults disk.new }
+{
+    let list = match read_inode_list(alloc, disk, sizes, block) {
+        Ok(list) => list,
+        Err(fault) => return Err(fault),
+    };
+    if let Some(n) = list.kind {
+        return Err(CheckFault::Refused {
+            number: 4,
+            place: u32::from(n),
+        });
+    }
+    if let Some(n) = list.size {
+        return Err(CheckFault::Refused {
+            number: 5,
+            place: u32::from(n),
+        });
+    }
+    Ok(list.used)
+}
+
+// The conditions 6 to 9, where those before hold: what the walk found. The slice has a block's length.
+fn check_blocks<D: Disk>(
+    alloc: Global,
+    disk: &mut D,
+    sizes: &Geometry,
+    block: &mut [u8],
+) -> Result<BlockWalk, CheckFault>
+    requires sized { IsSized (D.content disk.old) }
+    requires sizes { sizes.now ≡ geometry_of (D.content disk.old) }
+    requires kind { kind_flaw (geometry_of (D.content disk.old)) (D.content disk.old) ≡ None }
+    requires size { size_flaw (geometry_of (D.content disk.old)) (D.content disk.old) ≡ None }
+    requires block { length block.old ≡ sizes.now.block_size }
+    ensures walked { IfOk result (λ w. IsWalked (D.content disk.old)) }
+    ensures err { IfErr result (Says (Flaw (D.content disk.old)) (Rose (D.faults disk.old) (D.faults disk.new)) ⊤) }
+    ensures content { D.content disk.new ≡ D.content disk.old }
+    ensures faults { D.faults disk.old ≤ D.faults disk.new }
+{
+    let walk = match walk_blocks(alloc, disk, sizes, block) {
+        Ok(walk) => walk,
+        Err(fault) => return Err(fault),
+    };
+    if let Some(bad) = walk.bad {
+        return Err(refused_at(sizes, bad));
+    }
+    if let Some(n) = walk.past {
+        return Err(CheckFault::Refused {
+            number: 8,
+            place: u32::from(n),
+        });
+    }
+    if let Some(n) = walk.tail {
+        return Err(CheckFault::Refused {
+            number: 9,
+            place: u32::from(n),
+        });
+    }
+    Ok(walk)
+}
+
+// What a bad number of the walk refuses: out of range, or met before.
+fn refused_at(sizes: &Geometry, bad: Met) -> CheckFault
+    ensures { Says (BadFlaw sizes.now bad) ⊥ ⊥ result }
+{
+    if sizes.first_data <= bad.block && bad.block < sizes.blocks {
+        return CheckFault::Refused {
+            number: 7,
+            place: bad.block,
+        };
+    }
+    CheckFault::Refused {
+        number: 6,
+        place: u32::from(bad.inode),
+    }
+}

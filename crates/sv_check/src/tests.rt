@@ -1,0 +1,120 @@
+// Worked rows: a small sound image, and one change of it for each of the first nine conditions.
+ghost use Rattle.std.specs.Prelude.{◌+◌, ◌<◌, ◌^◌, length};
+
+use crate::{CheckFault, check_walk};
+use std::alloc::{AllocError, Global};
+use std::process::Abort;
+use std::test::Fail as Failure;
+use sv_dev::{Access, Fail, MemDisk};
+
+// An image of 5 blocks and 16 inodes. Inode 2 is the root, and inode 3 a file of 6 bytes in block 4.
+fn small_image(alloc: Global) -> Result<Vec<u8>, AllocError> {
+    let mut image = vec![in alloc; 0; 5_120]?;
+    put(&mut image, 512, b"SV5F\x02\0\x03\0\x05\0\0\0\x01\0\0\0");
+    put(&mut image, 2_112, b"\xed\x41\x02\0\0\0\0\0\x30\0\0\0\x03");
+    put(&mut image, INODE_3, b"\xa4\x81\x01\0\0\0\0\0\x06\0\0\0\x04");
+    put(&mut image, 3_072, b"\x02\0.");
+    put(&mut image, 3_088, b"\x02\0..");
+    put(&mut image, 3_104, b"\x03\0a");
+    put(&mut image, 4_096, b"hello\n");
+    Ok(image)
+}
+
+fn put(image: &mut Vec<u8>, at: usize, bytes: &[u8])
+    requires { at + length bytes.now < 2 ^ 32 }
+{
+    for (k, byte) in bytes.iter().enumerate() {
+        if let Some(place) = image.get_mut(at + k) {
+            *place = *byte;
+        }
+    }
+}
+
+const INODE_1: usize = 2_048;
+
+const INODE_3: usize = 2_176;
+
+// The number and the place of the first of nine conditions that fails on the small image with these bytes changed, and
+// no number where none does.
+fn first_of_nine(alloc: Global, at: usize, bytes: &[u8]) -> Result<(u8, u32), Failure>
+    requires { at + length bytes.now < 2 ^ 32 }
+{
+    let mut image = small_image(alloc)?;
+    put(&mut image, at, bytes);
+    let mut disk = MemDisk::new(image, Vec::new(alloc));
+    match check_walk(alloc, &mut disk) {
+        Ok(_) => Ok((0, 0)),
+        Err(CheckFault::Refused { number, place }) => Ok((number, place)),
+        Err(_) => Err("no answer")?,
+    }
+}
+
+#[test]
+fn nine_conditions(rt: HostRuntime) -> Result<(), Failure> {
+    let alloc = rt.alloc();
+    let file = b"\xa4\x81\x01\0\0\0\0\0\x06\0\0\0\x04";
+    assert_eq!(rt; first_of_nine(alloc, 0, b"")?, (0, 0));
+    assert_eq!(rt; first_of_nine(alloc, 512, b"\0")?, (1, 0));
+    assert_eq!(rt; first_of_nine(alloc, 516, b"\x03")?, (2, 3));
+    assert_eq!(rt; first_of_nine(alloc, 520, b"\x06")?, (3, 0));
+    assert_eq!(rt; first_of_nine(alloc, INODE_1, file)?, (4, 1));
+    assert_eq!(rt; first_of_nine(alloc, 2_120, b"\x28")?, (5, 2));
+    assert_eq!(rt; first_of_nine(alloc, INODE_3 + 12, b"\x05")?, (6, 3));
+    assert_eq!(rt; first_of_nine(alloc, INODE_3 + 12, b"\x02")?, (6, 3));
+    assert_eq!(rt; first_of_nine(alloc, INODE_3 + 12, b"\x03")?, (7, 3));
+    assert_eq!(rt; first_of_nine(alloc, INODE_3 + 8, b"\0")?, (8, 3));
+    assert_eq!(rt; first_of_nine(alloc, 4_196, b"\x01")?, (9, 3));
+    Ok(())
+}
+
+// Block 4 as the single, the double and the triple indirect block of inode 3, with no number, its own, and one that is
+// no data block.
+#[test]
+fn indirect_blocks(rt: HostRuntime) -> Result<(), Failure> {
+    let alloc = rt.alloc();
+    for address in [42, 45, 48] {
+        let mut image = small_image(alloc)?;
+        put(&mut image, INODE_3 + 8, b"\0\0\0\x10\0");
+        put(&mut image, INODE_3 + address, b"\x04");
+        put(&mut image, 4_096, b"\0\0\0\0\0\0");
+        assert_eq!(rt; answer(alloc, &image)?, (8, 3));
+        put(&mut image, 5_116, b"\x04");
+        assert_eq!(rt; answer(alloc, &image)?, (7, 4));
+        put(&mut image, 5_116, b"\x05");
+        assert_eq!(rt; answer(alloc, &image)?, (6, 3));
+    }
+    Ok(())
+}
+
+fn answer(alloc: Global, image: &[u8]) -> Result<(u8, u32), Failure> {
+    let mut copy = Vec::new(alloc);
+    copy.extend_from_slice(image)?;
+    let mut disk = MemDisk::new(copy, Vec::new(alloc));
+    match check_walk(alloc, &mut disk) {
+        Ok(_) => Ok((0, 0)),
+        Err(CheckFault::Refused { number, place }) => Ok((number, place)),
+        Err(_) => Err("no answer")?,
+    }
+}
+
+// The superblock, the inode list twice, and the last page of each file.
+#[test]
+fn reads_and_faults(rt: HostRuntime) -> Result<(), Failure> {
+    let alloc = rt.alloc();
+    let log = [
+        Access::Read(512),
+        Access::Read(2_048),
+        Access::Read(2_048),
+        Access::Read(3_072),
+        Access::Read(4_096),
+    ];
+    let mut disk = MemDisk::new(small_image(alloc)?, Vec::new(alloc));
+    assert!(rt; check_walk(alloc, &mut disk).is_ok());
+    assert!(rt; disk.log() == log.as_slice());
+    for k in 1..=5 {
+        let fails = vec![in alloc; Fail::Read(k)]?;
+        let mut disk = MemDisk::new(small_image(alloc)?, fails);
+        assert!(rt; matches!(check_walk(alloc, &mut disk), Err(CheckFault::Fault)));
+    }
+    Ok(())
+}
