@@ -1,4 +1,5 @@
 mod AddressSteps
+mod ChainWalk
 mod Flaws
 mod InodeSteps
 pub mod LineReads

@@ -101,7 +101,7 @@ module _ (g : Geometry) (image : List ℕ) (n size : ℕ) where
 abbrev pub from_on : (ℕ → Bool) → ℕ → ℕ → List ℕ
 from_on p m k = filter p (range_with_len k (m - k))
 
-range_from : (m k : ℕ) → k < m → range_with_len k (m - k) ≡ k ∷ range_with_len (k + 1) (m - (k + 1))
+pub range_from : (m k : ℕ) → k < m → range_with_len k (m - k) ≡ k ∷ range_with_len (k + 1) (m - (k + 1))
 range_from m k below =
     let more : m - k ≡ suc (m - (k + 1)) = omega (arith, below) in
     ap (range_with_len k) more

@@ -1,5 +1,6 @@
 pub mod Blocks
 pub mod Chain
+pub mod ChainSteps
 pub mod Directories
 pub mod Fault
 pub mod InodeCache

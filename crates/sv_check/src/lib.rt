@@ -4,10 +4,12 @@
 //! - `check_walk` decides the first nine conditions: the sizes, the inodes, and the walk over their blocks.
 //! - `read_sizes` decides the first three: it reads the superblock, or says which fails first, and where.
 //! - `read_inode_list` and `walk_blocks` are its two passes; `Walk` is the walk over the blocks of one inode.
+//! - `follow_chain` follows a chain of free blocks to its first bad number, from the blocks that were met before.
 //! - `read_block` and `read_inode` read one block, and one inode, of an image of known sizes.
 #![tactic(auto)]
 
 mod blocks;
+mod chain;
 mod check;
 mod fault;
 mod inodes;
@@ -17,6 +19,7 @@ mod walk;
 mod whole_walk;
 
 pub use blocks::{read_block, read_inode};
+pub use chain::{MetBlocks, follow_chain, list_in, reads_list};
 pub use check::check_walk;
 pub use fault::CheckFault;
 pub use inodes::{InodeList, is_free, read_inode_list};

@@ -1,11 +1,12 @@
 // Worked rows: a small sound image, and one change of it for each of the first nine conditions.
 ghost use Rattle.std.specs.Prelude.{◌+◌, ◌<◌, ◌^◌, length};
 
-use crate::{CheckFault, check_walk};
+use crate::{CheckFault, MetBlocks, check_walk, follow_chain};
 use std::alloc::{AllocError, Global};
 use std::process::Abort;
 use std::test::Fail as Failure;
 use sv_dev::{Access, Fail, MemDisk};
+use sv_form::Geometry;
 
 // An image of 5 blocks and 16 inodes. Inode 2 is the root, and inode 3 a file of 6 bytes in block 4.
 fn small_image(alloc: Global) -> Result<Vec<u8>, AllocError> {
@@ -116,5 +117,44 @@ fn reads_and_faults(rt: HostRuntime) -> Result<(), Failure> {
         let mut disk = MemDisk::new(small_image(alloc)?, fails);
         assert!(rt; matches!(check_walk(alloc, &mut disk), Err(CheckFault::Fault)));
     }
+    Ok(())
+}
+
+// The first bad number of the chain that begins with these numbers, in eight blocks where block 3 was met in the walk,
+// and block 4 has a list of the link and block 6.
+fn chain_stops(alloc: Global, numbers: &[u32], link: u8) -> Result<Option<u32>, Failure> {
+    let sizes = Geometry {
+        block_size: 1_024,
+        blocks: 8,
+        first_data: 3,
+    };
+    let mut image = vec![in alloc; 0; 8_192]?;
+    put(&mut image, 4_096, b"\x02\0\0\0");
+    put(&mut image, 4_100, &[link]);
+    put(&mut image, 4_104, b"\x06");
+    let mut disk = MemDisk::new(image, Vec::new(alloc));
+    let mut met = vec![in alloc; false; 8]?;
+    met[3] = true;
+    let mut met = MetBlocks { met, bad: 0 };
+    let mut first = Vec::new(alloc);
+    first.extend_from_slice(numbers)?;
+    match follow_chain(alloc, &mut disk, &sizes, &mut met, first) {
+        Ok(bad) => Ok(bad),
+        Err(_) => Err("no answer")?,
+    }
+}
+
+#[test]
+fn chains(rt: HostRuntime) -> Result<(), Failure> {
+    let alloc = rt.alloc();
+    assert_eq!(rt; chain_stops(alloc, &[0], 0)?, None);
+    assert_eq!(rt; chain_stops(alloc, &[4, 5], 0)?, None);
+    assert_eq!(rt; chain_stops(alloc, &[4, 5], 7)?, Some(7));
+    assert_eq!(rt; chain_stops(alloc, &[4, 5], 4)?, Some(4));
+    assert_eq!(rt; chain_stops(alloc, &[4, 6], 0)?, Some(6));
+    assert_eq!(rt; chain_stops(alloc, &[0, 3], 0)?, Some(3));
+    assert_eq!(rt; chain_stops(alloc, &[0, 0], 0)?, Some(0));
+    assert_eq!(rt; chain_stops(alloc, &[5, 8], 0)?, Some(8));
+    assert_eq!(rt; chain_stops(alloc, &[5, 6], 0)?, Some(5));
     Ok(())
 }
