@@ -5,7 +5,7 @@ use crate::{CheckFault, MetBlocks, check_walk, follow_chain};
 use std::alloc::{AllocError, Global};
 use std::process::Abort;
 use std::test::Fail as Failure;
-use sv_dev::{Access, Fail, MemDisk};
+use sv_dev::{Access, Disk, Fail, MemDisk};
 use sv_form::Geometry;
 
 // An image of 5 blocks and 16 inodes. Inode 2 is the root, and inode 3 a file of 6 bytes in block 4.
@@ -138,6 +138,9 @@ fn chain_stops(alloc: Global, numbers: &[u32], link: u8) -> Result<Option<u32>, 
     let mut met = MetBlocks { met, bad: 0 };
     let mut first = Vec::new(alloc);
     first.extend_from_slice(numbers)?;
+    if disk.length() != 8_192 {
+        return Err("length")?;
+    }
     match follow_chain(alloc, &mut disk, &sizes, &mut met, first) {
         Ok(bad) => Ok(bad),
         Err(_) => Err("no answer")?,
