@@ -1,5 +1,6 @@
 pub mod Holding
 pub mod Lines
+pub mod OwnContent
 pub mod OwnJoin
 pub mod OwnLaws
 pub mod OwnParts

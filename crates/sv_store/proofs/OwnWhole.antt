@@ -26,7 +26,7 @@ whole-cons g b bytes rest = refl
 eqb-less : (a b : ℕ) → a < b → (b == a) ≡ false
 eqb-less a b h = grind (nat_tests, arith)
 
-line_in-other : (e : OwnBlock) (b l : ℕ) → (e.block == b) ≡ false → line_in e b l ≡ None
+pub line_in-other : (e : OwnBlock) (b l : ℕ) → (e.block == b) ≡ false → line_in e b l ≡ None
 line_in-other e b l other = line_in-at e b l ∙ ap (λ q. cond q (Some (line_of e.kept l)) None) (has-wrong b l (mask_of e) other)
 
 -- nothing is held of the blocks before

@@ -1,7 +1,7 @@
 // Small holders of stakes, over any stake: what a holder can count on is proved here from the trait alone.
-ghost use Rattle.std.specs.Prelude.{◌≡◌, ◌<◌, ◌*◌, ◌/◌, ◌%◌, ℕ, true, false, length, IfOk, IsSome, OnOk};
-ghost use Rattle.sv_store.specs.Calls.{CanGet, CanPart};
-ghost use Rattle.sv_store.specs.Held.{SameLines, in_ranges};
+ghost use Rattle.std.specs.Prelude.{◌≡◌, ◌<◌, ◌*◌, ◌/◌, ◌%◌, ℕ, true, false, length, replicate, IfOk, IsSome, OnOk};
+ghost use Rattle.sv_store.specs.Calls.{CanGet, CanFresh, CanPart};
+ghost use Rattle.sv_store.specs.Held.{SameLines, in_ranges, nothing_lent, put};
 
 use crate::{LineRange, Refusal, Stake};
 use std::alloc::Global;
@@ -75,4 +75,26 @@ pub fn cut_and_merge<R: Wait, S: Stake>(
     stake.merge(part);
     first?;
     second
+}
+
+/// Makes a block anew and lets it go, gets it again and writes it as it is, and asks for the writing of what waits.
+pub fn make_and_write<R: Wait, S: Stake>(
+    rt: &R,
+    stake: &mut S,
+    block: u32,
+    next: u32,
+) -> Result<(), Refusal>
+    requires block { CanFresh (S.origin stake.old) (S.held stake.old) (S.lent stake.old) block }
+    requires next { next < (S.origin stake.old).sizes.blocks }
+    requires lent { S.lent stake.old ≡ nothing_lent }
+    ensures lines { SameLines (S.held stake.new) (S.held stake.old) }
+    ensures zeros { OnOk result (S.held stake.new ≡ put block (replicate (S.origin stake.old).sizes.block_size 0) (S.held stake.old)) }
+    ensures lends { S.lent stake.new ≡ nothing_lent }
+    ensures origin { S.origin stake.new ≡ S.origin stake.old }
+{
+    let zeros = stake.fresh(rt, block)?;
+    stake.brelse(rt, zeros);
+    let again = stake.breada(rt, block, next)?;
+    stake.bwrite(rt, again)?;
+    stake.flush(rt)
 }

@@ -17,7 +17,7 @@ mod stake;
 mod tests;
 
 pub use buf::Buf;
-pub use own_stake::OwnStake;
+pub use own_stake::{Numbered, OwnStake};
 pub use refusal::Refusal;
 pub use stake::Stake;
 pub use std::alloc::AllocError as NoMemory;

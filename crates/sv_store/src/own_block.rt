@@ -1,10 +1,11 @@
 // Lines of blocks in a linked list: each operation goes over the list once, and takes no memory.
 ghost use Rattle.std.specs.Prelude.{◌≡◌, ◌≢◌, ◌<◌, ◌≤◌, ◌+◌, ◌*◌, ◌++◌, ◌==◌, ℕ, List, Some, None, true, IsSome, length, map, take, drop, slice_set, slice_index_or, if◌then◌else◌, IfSome, IsTrue, false, unwrap_or, replicate, IfOk, OnOk, not, ◌∷◌, []};
-ghost use Rattle.std.specs.List.{position, list_any};
+ghost use Rattle.std.specs.List.{position, list_any, All};
 ghost use Rattle.std.specs.LinkedList.{linked_list_len};
 ghost use Rattle.sv_form.specs.Geometry.{IsGeometry};
 ghost use Rattle.sv_store.specs.Calls.{CanGet};
 ghost use Rattle.sv_store.specs.Held.{line_of, in_ranges, covers, put, with, without, nothing_lent, Apart, Both};
+ghost use Rattle.sv_store.specs.Content.{block_bytes};
 ghost use Rattle.sv_store.specs.OwnBlock.{nowhere, is_out, filled, line_in, held_of, lent_of, IsSound, masked_lines, masked, copied, holds_any, left, whole_block, whole_blocks};
 
 use std::alloc::{AllocError, Global};
@@ -87,6 +88,19 @@ impl Own {
 }
 
 impl Own {
+    // Copies the lines that are held to the block's place among all blocks.
+    fn copy_out(&self, content: &mut [Vec<u8>])
+        requires place { self.now.block < length content.old }
+        requires kept { length self.now.kept ≡ length (block_bytes content.old self.now.block) }
+        requires lines { length self.now.lines * 64 ≡ length (block_bytes content.old self.now.block) }
+        ensures count { length content.new ≡ length content.old }
+        ensures sizes { (b : ℕ) → length (block_bytes content.new b) ≡ length (block_bytes content.old b) }
+        ensures lines { (b l : ℕ) → line_of (block_bytes content.new b) l ≡ unwrap_or (line_in self.now b l) (line_of (block_bytes content.old b) l) }
+    {
+        let at = self.block as usize;
+        self.copy_lines(self.block, content[at].as_mut_slice());
+    }
+
     // Whether any line is held here.
     fn holds_any(&self) -> bool
         ensures { result ≡ holds_any self.now }
@@ -401,6 +415,37 @@ pub(crate) fn join(blocks: &mut LinkedList<Own>, sizes: Geometry, others: Linked
     let Ok(()) = blocks.append(&mut others) else {
         unreachable!()
     };
+}
+
+// As many blocks of zero bytes as the disk has.
+pub(crate) fn zero_content(alloc: Global, sizes: Geometry) -> Result<Vec<Vec<u8>>, AllocError>
+    ensures count { IfOk result (λ content. length content.items ≡ sizes.blocks) }
+    ensures bytes { IfOk result (λ content. All (λ bytes. length bytes.items ≡ sizes.block_size) content.items) }
+{
+    let mut content = Vec::new(alloc);
+    for _block in 0..sizes.blocks {
+        let bytes = vec![in alloc; 0u8; sizes.block_size as usize]?;
+        content.push(bytes)?;
+    }
+    Ok(content)
+}
+
+// Copies the lines that are held to their blocks among all blocks.
+pub(crate) fn copy_all(blocks: &mut LinkedList<Own>, sizes: Geometry, content: &mut [Vec<u8>])
+    requires sound { IsSound sizes blocks.old }
+    requires count { length content.old ≡ sizes.blocks }
+    requires bytes { (b : ℕ) → b < sizes.blocks → length (block_bytes content.old b) ≡ sizes.block_size }
+    ensures count { length content.new ≡ sizes.blocks }
+    ensures bytes { (b : ℕ) → b < sizes.blocks → length (block_bytes content.new b) ≡ sizes.block_size }
+    ensures lines { (b l : ℕ) → IfSome (held_of blocks.old b l) (λ bytes. line_of (block_bytes content.new b) l ≡ bytes) }
+{
+    for _turned in 0..blocks.len() {
+        let Some(own) = blocks.front() else {
+            unreachable!()
+        };
+        own.copy_out(content);
+        turn(blocks);
+    }
 }
 
 // Whether any of these is true.
