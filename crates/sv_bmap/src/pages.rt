@@ -1,0 +1,229 @@
+// From a page to its block, and the blocks that are missing on the way.
+ghost use Rattle.std.specs.Prelude.{◌≡◌, ◌≢◌, ◌≤◌, ◌<◌, ◌+◌, ◌==◌, ◌&&◌, ◌||◌, ℕ, IfOk, OnOk, if◌then◌else◌, slice_index};
+ghost use Rattle.sv_form.specs.PagePath.{IsPage, block_numbers};
+ghost use Rattle.sv_store.specs.Causes.{HasFault};
+ghost use Rattle.sv_store.specs.Held.{HoldsBlock, nothing_lent};
+ghost use Rattle.sv_bmap.specs.Need.{need_at, need_of};
+ghost use Rattle.sv_bmap.specs.Tree.{IsTree, child, no_hole, page_block};
+
+use std::sync::Wait;
+use sv_form::{PagePath, number32};
+use sv_store::{Refusal, Stake};
+
+/// The block numbers of an inode: ten of pages, and those of the single, the double and the triple indirect block.
+pub type Addresses = [u32; 13];
+
+/// The block of a page, none exactly for a hole (Bach, chapter 4.2, algorithm bmap). At most three blocks are read.
+pub fn lookup<R: Wait, S: Stake>(
+    rt: &R,
+    a: &Addresses,
+    s: &mut S,
+    page: u32,
+) -> Result<Option<u32>, Refusal>
+    requires tree { IsTree (S.origin s.old) (S.held s.old) a.now }
+    requires page { IsPage (S.origin s.old).sizes page }
+    requires lent { S.lent s.old ≡ nothing_lent }
+    ensures block { IfOk result (λ block. block ≡ no_hole (page_block (S.origin s.old).sizes (S.held s.old) a.now page)) }
+    ensures held { S.held s.new ≡ S.held s.old }
+    ensures lends { S.lent s.new ≡ nothing_lent }
+    ensures forced { S.forced s.new ≡ S.forced s.old }
+    ensures origin { S.origin s.new ≡ S.origin s.old }
+    ensures cause { HasFault (S.faults s.old) (S.faults s.new) result }
+{
+    let block = block_of(rt, a, s, page)?;
+    Ok(if_present(block))
+}
+
+// The block of a page, 0 for a hole.
+fn block_of<R: Wait, S: Stake>(rt: &R, a: &Addresses, s: &mut S, page: u32) -> Result<u32, Refusal>
+    requires tree { IsTree (S.origin s.old) (S.held s.old) a.now }
+    requires page { IsPage (S.origin s.old).sizes page }
+    requires lent { S.lent s.old ≡ nothing_lent }
+    ensures block { IfOk result (λ block. block ≡ page_block (S.origin s.old).sizes (S.held s.old) a.now page) }
+    ensures held { S.held s.new ≡ S.held s.old }
+    ensures lends { S.lent s.new ≡ nothing_lent }
+    ensures forced { S.forced s.new ≡ S.forced s.old }
+    ensures origin { S.origin s.new ≡ S.origin s.old }
+    ensures cause { HasFault (S.faults s.old) (S.faults s.new) result }
+{
+    let sizes = s.geometry();
+    match sizes.path_of(page) {
+        PagePath::Direct(i) => Ok(a[usize::from(i)]),
+        PagePath::Single(i) => child_of(rt, s, a[10], usize::from(i)),
+        PagePath::Double(i, j) => {
+            let (_, block) = two_below(rt, s, a[11], usize::from(i), usize::from(j))?;
+            Ok(block)
+        }
+        PagePath::Triple(i, j, k) => {
+            let (i, j, k) = (usize::from(i), usize::from(j), usize::from(k));
+            let (_, _, block) = three_below(rt, s, a[12], i, j, k)?;
+            Ok(block)
+        }
+    }
+}
+
+// A block number, if it is no hole.
+fn if_present(block: u32) -> Option<u32>
+    ensures { result ≡ no_hole block }
+{
+    if block == 0 { None } else { Some(block) }
+}
+
+// Where a number of an indirect block leads, 0 below a hole.
+fn child_of<R: Wait, S: Stake>(rt: &R, s: &mut S, b: u32, k: usize) -> Result<u32, Refusal>
+    requires block { b ≢ 0 → HoldsBlock (S.origin s.old) (S.held s.old) b }
+    requires place { k < block_numbers (S.origin s.old).sizes }
+    requires lent { S.lent s.old ≡ nothing_lent }
+    ensures block { IfOk result (λ block. block ≡ child (S.held s.old) b k) }
+    ensures held { S.held s.new ≡ S.held s.old }
+    ensures lends { S.lent s.new ≡ nothing_lent }
+    ensures forced { S.forced s.new ≡ S.forced s.old }
+    ensures origin { S.origin s.new ≡ S.origin s.old }
+    ensures cause { HasFault (S.faults s.old) (S.faults s.new) result }
+{
+    if b == 0 {
+        return Ok(0);
+    }
+    let buf = s.bread(rt, b)?;
+    let block = number32(buf.bytes(), k * 4);
+    s.brelse(rt, buf);
+    Ok(block)
+}
+
+// Where two numbers, one below the other, lead.
+fn two_below<R: Wait, S: Stake>(
+    rt: &R,
+    s: &mut S,
+    b: u32,
+    i: usize,
+    j: usize,
+) -> Result<(u32, u32), Refusal>
+    requires top { b ≢ 0 → HoldsBlock (S.origin s.old) (S.held s.old) b }
+    requires below { child (S.held s.old) b i ≢ 0 → HoldsBlock (S.origin s.old) (S.held s.old) (child (S.held s.old) b i) }
+    requires first { i < block_numbers (S.origin s.old).sizes }
+    requires second { j < block_numbers (S.origin s.old).sizes }
+    requires lent { S.lent s.old ≡ nothing_lent }
+    ensures first { IfOk result (λ blocks. blocks.0 ≡ child (S.held s.old) b i) }
+    ensures second { IfOk result (λ blocks. blocks.1 ≡ child (S.held s.old) (child (S.held s.old) b i) j) }
+    ensures held { S.held s.new ≡ S.held s.old }
+    ensures lends { S.lent s.new ≡ nothing_lent }
+    ensures forced { S.forced s.new ≡ S.forced s.old }
+    ensures origin { S.origin s.new ≡ S.origin s.old }
+    ensures cause { HasFault (S.faults s.old) (S.faults s.new) result }
+{
+    let middle = child_of(rt, s, b, i)?;
+    let block = child_of(rt, s, middle, j)?;
+    Ok((middle, block))
+}
+
+// Where three numbers, each below the one before, lead.
+fn three_below<R: Wait, S: Stake>(
+    rt: &R,
+    s: &mut S,
+    b: u32,
+    i: usize,
+    j: usize,
+    k: usize,
+) -> Result<(u32, u32, u32), Refusal>
+    requires top { b ≢ 0 → HoldsBlock (S.origin s.old) (S.held s.old) b }
+    requires middle { child (S.held s.old) b i ≢ 0 → HoldsBlock (S.origin s.old) (S.held s.old) (child (S.held s.old) b i) }
+    requires below { child (S.held s.old) (child (S.held s.old) b i) j ≢ 0 → HoldsBlock (S.origin s.old) (S.held s.old) (child (S.held s.old) (child (S.held s.old) b i) j) }
+    requires first { i < block_numbers (S.origin s.old).sizes }
+    requires second { j < block_numbers (S.origin s.old).sizes }
+    requires third { k < block_numbers (S.origin s.old).sizes }
+    requires lent { S.lent s.old ≡ nothing_lent }
+    ensures first { IfOk result (λ blocks. blocks.0 ≡ child (S.held s.old) b i) }
+    ensures second { IfOk result (λ blocks. blocks.1 ≡ child (S.held s.old) (child (S.held s.old) b i) j) }
+    ensures third { IfOk result (λ blocks. blocks.2 ≡ child (S.held s.old) (child (S.held s.old) (child (S.held s.old) b i) j) k) }
+    ensures held { S.held s.new ≡ S.held s.old }
+    ensures lends { S.lent s.new ≡ nothing_lent }
+    ensures forced { S.forced s.new ≡ S.forced s.old }
+    ensures origin { S.origin s.new ≡ S.origin s.old }
+    ensures cause { HasFault (S.faults s.old) (S.faults s.new) result }
+{
+    let (upper, lower) = two_below(rt, s, b, i, j)?;
+    let block = child_of(rt, s, lower, k)?;
+    Ok((upper, lower, block))
+}
+
+/// How many data and indirect blocks make `count` pages from `first` on present. At most three blocks a page are read.
+pub fn need<R: Wait, S: Stake>(
+    rt: &R,
+    a: &Addresses,
+    s: &mut S,
+    first: u32,
+    count: u32,
+) -> Result<u32, Refusal>
+    requires tree { IsTree (S.origin s.old) (S.held s.old) a.now }
+    requires pages { (k : ℕ) → k < count → IsPage (S.origin s.old).sizes (first + k) }
+    requires lent { S.lent s.old ≡ nothing_lent }
+    ensures need { IfOk result (λ need. need ≡ need_of (S.origin s.old).sizes (S.held s.old) a.now first count) }
+    ensures held { S.held s.new ≡ S.held s.old }
+    ensures lends { S.lent s.new ≡ nothing_lent }
+    ensures forced { S.forced s.new ≡ S.forced s.old }
+    ensures origin { S.origin s.new ≡ S.origin s.old }
+    ensures cause { HasFault (S.faults s.old) (S.faults s.new) result }
+{
+    let _sizes = s.geometry();
+    let mut missing = 0;
+    for k in 0..count {
+        missing += need_of_page(rt, a, s, first, first + k)?;
+    }
+    Ok(missing)
+}
+
+// How many of the missing blocks are counted at this page.
+fn need_of_page<R: Wait, S: Stake>(
+    rt: &R,
+    a: &Addresses,
+    s: &mut S,
+    first: u32,
+    page: u32,
+) -> Result<u32, Refusal>
+    requires tree { IsTree (S.origin s.old) (S.held s.old) a.now }
+    requires page { IsPage (S.origin s.old).sizes page }
+    requires order { first ≤ page }
+    requires lent { S.lent s.old ≡ nothing_lent }
+    ensures need { IfOk result (λ need. need ≡ need_at (S.origin s.old).sizes (S.held s.old) a.now first page) }
+    ensures few { IfOk result (λ need. need ≤ 4) }
+    ensures held { S.held s.new ≡ S.held s.old }
+    ensures lends { S.lent s.new ≡ nothing_lent }
+    ensures forced { S.forced s.new ≡ S.forced s.old }
+    ensures origin { S.origin s.new ≡ S.origin s.old }
+    ensures cause { HasFault (S.faults s.old) (S.faults s.new) result }
+{
+    let sizes = s.geometry();
+    let begins = page == first;
+    match sizes.path_of(page) {
+        PagePath::Direct(i) => Ok(missing(a[usize::from(i)], true)),
+        PagePath::Single(i) => {
+            let block = child_of(rt, s, a[10], usize::from(i))?;
+            Ok(missing(a[10], begins | (i == 0)) + missing(block, true))
+        }
+        PagePath::Double(i, j) => {
+            let (middle, block) = two_below(rt, s, a[11], usize::from(i), usize::from(j))?;
+            Ok(
+                missing(a[11], begins | ((i == 0) & (j == 0)))
+                    + missing(middle, begins | (j == 0))
+                    + missing(block, true),
+            )
+        }
+        PagePath::Triple(i, j, k) => {
+            let (x, y, z) = (usize::from(i), usize::from(j), usize::from(k));
+            let (upper, lower, block) = three_below(rt, s, a[12], x, y, z)?;
+            Ok(
+                missing(a[12], begins | ((i == 0) & ((j == 0) & (k == 0))))
+                    + missing(upper, begins | ((j == 0) & (k == 0)))
+                    + missing(lower, begins | (k == 0))
+                    + missing(block, true),
+            )
+        }
+    }
+}
+
+// One for a hole, where this page is the first in the range that it stands above.
+fn missing(block: u32, is_first: bool) -> u32
+    ensures { result ≡ (if (block == 0) && is_first then 1 else 0) }
+{
+    u32::from((block == 0) & is_first)
+}

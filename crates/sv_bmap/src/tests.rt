@@ -1,0 +1,85 @@
+ghost use Rattle.std.specs.Prelude.{◌≡◌, ◌<◌, ◌≤◌, ◌+◌, ◌*◌, ℕ, IfOk, IsSome, length};
+ghost use Rattle.std.specs.List.{All};
+ghost use Rattle.sv_store.specs.Held.{nothing_lent};
+
+use crate::{Addresses, lookup, need};
+use std::alloc::Global;
+use std::sync::Wait;
+use std::test::Fail;
+use sv_form::Geometry;
+use sv_store::{NoMemory, OwnStake, Refusal, Stake};
+
+// 200 blocks of zero bytes.
+fn zero_blocks(alloc: Global) -> Result<Vec<Vec<u8>>, NoMemory>
+    ensures count { IfOk result (λ blocks. length blocks.items ≡ 200) }
+    ensures bytes { IfOk result (λ blocks. All (λ bytes. length bytes.items ≡ 1024) blocks.items) }
+{
+    let mut blocks = Vec::new(alloc);
+    for _block in 0..200usize {
+        let bytes = vec![in alloc; 0u8; 1024]?;
+        blocks.push(bytes)?;
+    }
+    Ok(blocks)
+}
+
+// A stake of 200 blocks of zero bytes.
+fn zero_stake(alloc: Global) -> Result<OwnStake, NoMemory>
+    ensures lent { IfOk result (λ s. ⟦<OwnStake as Stake>⟧.lent s ≡ nothing_lent) }
+    ensures sizes { IfOk result (λ s. ⟦<OwnStake as Stake>⟧.origin s ≡ record { id = 0; sizes = record { block_size = 1024; blocks = 200; first_data = 3 } }) }
+{
+    let sizes = Geometry {
+        block_size: 1024,
+        blocks: 200,
+        first_data: 3,
+    };
+    let content = zero_blocks(alloc)?;
+    OwnStake::new(alloc, sizes, content, Vec::new(alloc))
+}
+
+// The addresses of a file without pages.
+const NONE: Addresses = [0; 13];
+
+// The need of pages of a file without pages.
+fn need_of<R: Wait>(
+    rt: &R,
+    alloc: Global,
+    first: u32,
+    count: u32,
+) -> Result<Result<u32, Refusal>, NoMemory>
+    requires { first + count ≤ 1000000 }
+{
+    let mut stake = zero_stake(alloc)?;
+    Ok(need(rt, &NONE, &mut stake, first, count))
+}
+
+// The block of a page of a file without pages.
+fn block_of<R: Wait>(
+    rt: &R,
+    alloc: Global,
+    page: u32,
+) -> Result<Result<Option<u32>, Refusal>, NoMemory>
+    requires { page ≤ 1000000 }
+{
+    let mut stake = zero_stake(alloc)?;
+    Ok(lookup(rt, &NONE, &mut stake, page))
+}
+
+#[test]
+fn the_need_counts_each_missing_block_once(rt: HostRuntime) -> Result<(), Fail> {
+    assert_eq!(rt; need_of(&rt, rt.alloc(), 9, 2)?, Ok(3));
+    assert_eq!(rt; need_of(&rt, rt.alloc(), 65802, 1)?, Ok(4));
+    assert_eq!(rt; need_of(&rt, rt.alloc(), 65801, 2)?, Ok(7));
+    assert_eq!(rt; need_of(&rt, rt.alloc(), 10, 256)?, Ok(257));
+    assert_eq!(rt; need_of(&rt, rt.alloc(), 265, 2)?, Ok(5));
+    assert_eq!(rt; need_of(&rt, rt.alloc(), 5, 0)?, Ok(0));
+    Ok(())
+}
+
+#[test]
+fn a_file_without_pages_has_holes_alone(rt: HostRuntime) -> Result<(), Fail> {
+    assert_eq!(rt; block_of(&rt, rt.alloc(), 9)?, Ok(None));
+    assert_eq!(rt; block_of(&rt, rt.alloc(), 10)?, Ok(None));
+    assert_eq!(rt; block_of(&rt, rt.alloc(), 266)?, Ok(None));
+    assert_eq!(rt; block_of(&rt, rt.alloc(), 65802)?, Ok(None));
+    Ok(())
+}
