@@ -1,3 +1,4 @@
 pub mod Empty
 pub mod Needs
+pub mod Orders
 pub mod Paths

@@ -1,2 +1,4 @@
+pub mod Causes
 pub mod Need
+pub mod Order
 pub mod Tree

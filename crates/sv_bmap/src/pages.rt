@@ -70,7 +70,12 @@ fn if_present(block: u32) -> Option<u32>
 }
 
 // Where a number of an indirect block leads, 0 below a hole.
-fn child_of<R: Wait, S: Stake>(rt: &R, s: &mut S, b: u32, k: usize) -> Result<u32, Refusal>
+pub(crate) fn child_of<R: Wait, S: Stake>(
+    rt: &R,
+    s: &mut S,
+    b: u32,
+    k: usize,
+) -> Result<u32, Refusal>
     requires block { b ≢ 0 → HoldsBlock (S.origin s.old) (S.held s.old) b }
     requires place { k < block_numbers (S.origin s.old).sizes }
     requires lent { S.lent s.old ≡ nothing_lent }
