@@ -2,7 +2,7 @@ ghost use Rattle.std.specs.Prelude.{◌≡◌, ◌<◌, ◌≤◌, ◌+◌, ◌*
 ghost use Rattle.std.specs.List.{All};
 ghost use Rattle.sv_store.specs.Held.{nothing_lent};
 
-use crate::{Addresses, lookup, need};
+use crate::{Addresses, collect, lookup, need};
 use std::alloc::Global;
 use std::sync::Wait;
 use std::test::Fail;
@@ -81,5 +81,18 @@ fn a_file_without_pages_has_holes_alone(rt: HostRuntime) -> Result<(), Fail> {
     assert_eq!(rt; block_of(&rt, rt.alloc(), 10)?, Ok(None));
     assert_eq!(rt; block_of(&rt, rt.alloc(), 266)?, Ok(None));
     assert_eq!(rt; block_of(&rt, rt.alloc(), 65802)?, Ok(None));
+    Ok(())
+}
+
+// How many blocks a file without pages has.
+fn count_of<R: Wait>(rt: &R, alloc: Global) -> Result<usize, Refusal> {
+    let mut stake = zero_stake(alloc)?;
+    let blocks = collect(rt, alloc, &NONE, &mut stake)?;
+    Ok(blocks.len())
+}
+
+#[test]
+fn a_file_without_pages_has_no_blocks(rt: HostRuntime) -> Result<(), Fail> {
+    assert_eq!(rt; count_of(&rt, rt.alloc()), Ok(0));
     Ok(())
 }
