@@ -1,11 +1,11 @@
 -- A file without pages.
 use Rattle.std.proofs.Common.{◌≡◌, ◌≢◌, ◌≤◌, ◌<◌, ◌*◌, ℕ, zero, suc, List, [], ◌∷◌, get_or, ap, refl, sym, ◌∙◌, subst, arith}
 use Rattle.sv_form.specs.Geometry.{IsGeometry}
-use Rattle.sv_form.specs.PagePath.{IsPage, greatest_size}
+use Rattle.sv_form.specs.PagePath.{IsPage, block_numbers, greatest_size}
 use Rattle.sv_form.specs.declared.geometry.Geometry.{Geometry}
 use Rattle.sv_form.proofs.PageLemmas.{greatest_size_is}
-use Rattle.sv_store.specs.Held.{Held, Origin}
-use Rattle.sv_bmap.specs.Tree.{down, child, block_at, IsTree}
+use Rattle.sv_store.specs.Held.{Held, Origin, HoldsBlock}
+use Rattle.sv_bmap.specs.Tree.{down, child, block_at, IsSpot, IsTree}
 use Rattle.sv_bmap.proofs.Paths.{child-hole}
 
 down-hole : (h : Held) (b : ℕ) (ks : List ℕ) → b ≡ 0 → down h b ks ≡ 0
@@ -45,3 +45,29 @@ thirteen = 0 ∷ 0 ∷ 0 ∷ 0 ∷ 0 ∷ 0 ∷ 0 ∷ 0 ∷ 0 ∷ 0 ∷ 0 ∷ 0 �
 
 pub zeros : (slot : ℕ) → get_or thirteen slot 0 ≡ 0
 zeros = zero-cons (0 ∷ 0 ∷ 0 ∷ 0 ∷ 0 ∷ 0 ∷ 0 ∷ 0 ∷ 0 ∷ 0 ∷ 0 ∷ 0 ∷ []) (zero-cons (0 ∷ 0 ∷ 0 ∷ 0 ∷ 0 ∷ 0 ∷ 0 ∷ 0 ∷ 0 ∷ 0 ∷ 0 ∷ []) (zero-cons (0 ∷ 0 ∷ 0 ∷ 0 ∷ 0 ∷ 0 ∷ 0 ∷ 0 ∷ 0 ∷ 0 ∷ []) (zero-cons (0 ∷ 0 ∷ 0 ∷ 0 ∷ 0 ∷ 0 ∷ 0 ∷ 0 ∷ 0 ∷ []) (zero-cons (0 ∷ 0 ∷ 0 ∷ 0 ∷ 0 ∷ 0 ∷ 0 ∷ 0 ∷ []) (zero-cons (0 ∷ 0 ∷ 0 ∷ 0 ∷ 0 ∷ 0 ∷ 0 ∷ []) (zero-cons (0 ∷ 0 ∷ 0 ∷ 0 ∷ 0 ∷ 0 ∷ []) (zero-cons (0 ∷ 0 ∷ 0 ∷ 0 ∷ 0 ∷ []) (zero-cons (0 ∷ 0 ∷ 0 ∷ 0 ∷ []) (zero-cons (0 ∷ 0 ∷ 0 ∷ []) (zero-cons (0 ∷ 0 ∷ []) (zero-cons (0 ∷ []) (zero-cons ([]) (λ slot. refl)))))))))))))
+
+-- one page at the first direct address, and no other
+abbrev pub after-first : List ℕ
+after-first = 0 ∷ 0 ∷ 0 ∷ 0 ∷ 0 ∷ 0 ∷ 0 ∷ 0 ∷ 0 ∷ 0 ∷ 0 ∷ 0 ∷ []
+
+no-more : (slot : ℕ) → get_or after-first slot 0 ≡ 0
+no-more = zero-cons (0 ∷ 0 ∷ 0 ∷ 0 ∷ 0 ∷ 0 ∷ 0 ∷ 0 ∷ 0 ∷ 0 ∷ 0 ∷ []) (zero-cons (0 ∷ 0 ∷ 0 ∷ 0 ∷ 0 ∷ 0 ∷ 0 ∷ 0 ∷ 0 ∷ 0 ∷ []) (zero-cons (0 ∷ 0 ∷ 0 ∷ 0 ∷ 0 ∷ 0 ∷ 0 ∷ 0 ∷ 0 ∷ []) (zero-cons (0 ∷ 0 ∷ 0 ∷ 0 ∷ 0 ∷ 0 ∷ 0 ∷ 0 ∷ []) (zero-cons (0 ∷ 0 ∷ 0 ∷ 0 ∷ 0 ∷ 0 ∷ 0 ∷ []) (zero-cons (0 ∷ 0 ∷ 0 ∷ 0 ∷ 0 ∷ 0 ∷ []) (zero-cons (0 ∷ 0 ∷ 0 ∷ 0 ∷ 0 ∷ []) (zero-cons (0 ∷ 0 ∷ 0 ∷ 0 ∷ []) (zero-cons (0 ∷ 0 ∷ 0 ∷ []) (zero-cons (0 ∷ 0 ∷ []) (zero-cons (0 ∷ []) (zero-cons ([]) (λ slot. refl))))))))))))
+
+pub first-tree : (o : Origin) (h : Held) (b : ℕ) → HoldsBlock o h b → IsTree o h (b ∷ after-first)
+first-tree o h b holds = record {
+  whole = whole;
+  once = λ slot ks other js spot that some same.
+      (let one = first slot ks spot some in
+      let two = first other js that (λ e. some (same ∙ e)) in
+      (one.0 ∙ sym two.0, one.1 ∙ sym two.1));
+}
+  where
+    first : (slot : ℕ) (ks : List ℕ) → IsSpot (block_numbers o.sizes) slot ks → block_at h (b ∷ after-first) slot ks ≢ 0 → (slot ≡ 0) × (ks ≡ [])
+    first zero [] spot some = (refl, refl)
+    first zero (k ∷ ks) spot some = absurd (omega (arith, spot.deep))
+    first (suc m) ks spot some = absurd (some (down-hole h (get_or after-first m 0) ks (no-more m)))
+
+    whole : (slot : ℕ) (ks : List ℕ) → IsSpot (block_numbers o.sizes) slot ks → block_at h (b ∷ after-first) slot ks ≢ 0 → HoldsBlock o h (block_at h (b ∷ after-first) slot ks)
+    whole zero [] spot some = holds
+    whole zero (k ∷ ks) spot some = absurd (omega (arith, spot.deep))
+    whole (suc m) ks spot some = absurd (some (down-hole h (get_or after-first m 0) ks (no-more m)))

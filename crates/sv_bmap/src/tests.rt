@@ -24,6 +24,7 @@ fn zero_blocks(alloc: Global) -> Result<Vec<Vec<u8>>, NoMemory>
 
 // A stake of 200 blocks of zero bytes.
 fn zero_stake(alloc: Global) -> Result<OwnStake, NoMemory>
+    ensures held { IfOk result (λ s. (b l : ℕ) → b < 200 → l < 16 → IsSome (⟦<OwnStake as Stake>⟧.held s b l)) }
     ensures lent { IfOk result (λ s. ⟦<OwnStake as Stake>⟧.lent s ≡ nothing_lent) }
     ensures sizes { IfOk result (λ s. ⟦<OwnStake as Stake>⟧.origin s ≡ record { id = 0; sizes = record { block_size = 1024; blocks = 200; first_data = 3 } }) }
 {
@@ -33,7 +34,8 @@ fn zero_stake(alloc: Global) -> Result<OwnStake, NoMemory>
         first_data: 3,
     };
     let content = zero_blocks(alloc)?;
-    OwnStake::new(alloc, sizes, content, Vec::new(alloc))
+    let stake = OwnStake::new(alloc, sizes, content, Vec::new(alloc))?;
+    Ok(stake)
 }
 
 // The addresses of a file without pages.
@@ -94,5 +96,35 @@ fn count_of<R: Wait>(rt: &R, alloc: Global) -> Result<usize, Refusal> {
 #[test]
 fn a_file_without_pages_has_no_blocks(rt: HostRuntime) -> Result<(), Fail> {
     assert_eq!(rt; count_of(&rt, rt.alloc()), Ok(0));
+    Ok(())
+}
+
+// The addresses of a file with one page, which is block 50.
+const ONE: Addresses = [50, 0, 0, 0, 0, 0, 0, 0, 0, 0, 0, 0, 0];
+
+// Of a file with one page: the blocks of two pages, and the need of both.
+fn pages_of_one<R: Wait>(
+    rt: &R,
+    alloc: Global,
+) -> Result<(Option<u32>, Option<u32>, u32), Refusal> {
+    let mut stake = zero_stake(alloc)?;
+    let first = lookup(rt, &ONE, &mut stake, 0)?;
+    let second = lookup(rt, &ONE, &mut stake, 1)?;
+    let missing = need(rt, &ONE, &mut stake, 0, 2)?;
+    Ok((first, second, missing))
+}
+
+// Of a file with one page: its blocks, and the first of them.
+fn blocks_of_one<R: Wait>(rt: &R, alloc: Global) -> Result<(usize, Option<u32>), Refusal> {
+    let mut stake = zero_stake(alloc)?;
+    let blocks = collect(rt, alloc, &ONE, &mut stake)?;
+    let first = blocks.first().copied();
+    Ok((blocks.len(), first))
+}
+
+#[test]
+fn a_file_with_one_page_has_one_block(rt: HostRuntime) -> Result<(), Fail> {
+    assert_eq!(rt; pages_of_one(&rt, rt.alloc()), Ok((Some(50), None, 1)));
+    assert_eq!(rt; blocks_of_one(&rt, rt.alloc()), Ok((1, Some(50))));
     Ok(())
 }
