@@ -46,7 +46,7 @@ module _ (g : Geometry) (image : List ℕ) (n size : ℕ) where
   met_more owner b x some true is = grind (arith, some)
   met_more owner b x some false is = refl
 
-  owner_met : (owner : ℕ → ℕ) (b : ℕ) → n ≢ 0 → met_by (with_owner owner b n) ≡ with_met (met_by owner) b
+  pub owner_met : (owner : ℕ → ℕ) (b : ℕ) → n ≢ 0 → met_by (with_owner owner b n) ≡ with_met (met_by owner) b
   owner_met owner b some = fun_ext (λ x. met_more owner b x some (x == b) refl)
 
   -- a new block

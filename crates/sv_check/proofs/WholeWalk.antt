@@ -1,18 +1,22 @@
 -- The walk over all inodes, inode by inode: what it makes of the whole from what is left.
-use Rattle.std.proofs.Common.{◌≡◌, ◌≤◌, ◌<◌, ◌+◌, ◌-◌, ◌∷◌, [], ◌==◌, ◌||◌, ◌∙◌, ℕ, zero, suc, Bool, not, true, false, List, Option, Some, None, ap, sym, refl, subst, cond, if◌then◌else◌, find, filter, flat_map, replicate, slice_index, arith}
+use Rattle.std.proofs.Common.{◌≡◌, ◌≢◌, map, ◌≤◌, ◌<◌, ◌+◌, ◌-◌, ◌++◌, ◌∷◌, [], ◌==◌, ◌||◌, ◌∙◌, ℕ, zero, suc, Bool, not, true, false, List, Option, Some, None, ap, sym, refl, subst, cond, if◌then◌else◌, find, filter, flat_map, replicate, slice_index, arith}
 use Rattle.std.specs.List.{range_with_len, list_any}
 use Rattle.std.specs.Option.{option_or}
 use Rattle.std.specs.Bool.{then_some}
 use Rattle.std.proofs.Math.Path.{fun_ext}
+use Rattle.std.proofs.lemmas.List.{map-append}
+use Rattle.std.proofs.lemmas.List.Folds.{list_any-append}
 use Rattle.sv_form.specs.declared.geometry.Geometry.{Geometry}
 use Rattle.sv_form.specs.Geometry.{inode_count}
 use Rattle.sv_form.specs.Image.{inode_of}
 use Rattle.sv_plain.specs.Front.{size_of}
+use Rattle.sv_check.specs.declared.met.Met.{Met}
 use Rattle.sv_check.specs.InodeList.{is_free, used_inodes}
 use Rattle.sv_check.specs.PastSize.{is_past, has_tail, some_reached, past_size_flaw, tail_flaw}
-use Rattle.sv_check.specs.Progress.{Progress, met_by, step, after, GoesOn, StopsAt, Walks}
-use Rattle.sv_check.specs.Walk.{Reached, reached, met_of, walk, first_bad, nothing_met}
-use Rattle.sv_check.proofs.WalkSteps.{from_on, from_on-skip, from_on-take, from_on-end}
+use Rattle.sv_check.specs.Progress.{met_at, Progress, met_by, step, after, GoesOn, StopsAt, Walks}
+use Rattle.sv_check.specs.Walk.{is_among, Reached, reached, met_of, walk, first_bad, nothing_met}
+use Rattle.sv_check.specs.Chain.{walked}
+use Rattle.sv_check.proofs.WalkSteps.{owner_met, from_on, from_on-skip, from_on-take, from_on-end}
 
 zeros-index : (n x : ℕ) → slice_index (replicate n 0) x ≡ 0
 zeros-index zero x = refl
@@ -25,6 +29,10 @@ nothing-owned n owner is = fun_ext (λ x. sym (ap (λ (y : ℕ). not (y == 0)) (
 
 or_false : (b : Bool) → (false || b) ≡ b
 or_false b = refl
+
+or_false_after : (b : Bool) → (b || false) ≡ b
+or_false_after true = refl
+or_false_after false = refl
 
 or_or : (a b c : Bool) → ((a || b) || c) ≡ (a || (b || c))
 or_or true b c = refl
@@ -63,6 +71,25 @@ module _ (g : Geometry) (image : List ℕ) where
   abbrev pub is_used : ℕ → Bool
   is_used n = not (is_free (inode_of g image n))
 
+  -- what was met so far, and what these blocks add
+  met_two : (x b : ℕ) (p rest : Bool) → (((b == x) || p) || rest) ≡ (p || ((x == b) || rest))
+  met_two x b p rest = by_test x b p rest (b == x) (x == b) refl refl where
+    by_test : (x b : ℕ) (p rest t u : Bool) → (b == x) ≡ t → (x == b) ≡ u → ((t || p) || rest) ≡ (p || (u || rest))
+    by_test x b true rest true u e f = refl
+    by_test x b true rest false u e f = refl
+    by_test x b false rest true true e f = refl
+    by_test x b false rest false false e f = refl
+    by_test x b false rest true false e f = grind (arith, e, f)
+    by_test x b false rest false true e f = grind (arith, e, f)
+
+  after-met : (n size : ℕ) (p : Progress) (list : List Reached) (b : ℕ) → n ≢ 0
+      → met_by (after g image n size p list).owner b ≡ (met_by p.owner b || is_among (map (λ m. m.block) (met_at n list)) b)
+  after-met n size p [] b some = grind arith
+  after-met n size p (r ∷ rest) b some =
+      after-met n size (step g image n size p r) rest b some
+      ∙ ap (λ (met : ℕ → Bool). met b || is_among (map (λ m. m.block) (met_at n rest)) b) (owner_met g image n size p.owner r.block some)
+      ∙ met_two r.block b (met_by p.owner b) (is_among (map (λ m. m.block) (met_at n rest)) b)
+
   -- the used inodes from k on
   abbrev pub left : ℕ → List ℕ
   left k = from_on is_used (inode_count g + 1) k
@@ -72,6 +99,7 @@ module _ (g : Geometry) (image : List ℕ) where
     pub bad : first_bad g nothing_met (walk g image) ≡ first_bad g (met_by owner) (flat_map (met_of g image) (left k))
     pub pasts : past_size_flaw g image ≡ option_or past (find (some_reached g image (is_past g image)) (left k))
     pub tails : tail_flaw g image ≡ option_or tail (find (some_reached g image (has_tail g image)) (left k))
+    pub mets : (b : ℕ) → (met_by owner b || is_among (map (λ m. m.block) (flat_map (met_of g image) (left k))) b) ≡ is_among (walked g image) b
 
   all_left : used_inodes g image ≡ left 1
   unfolding used_inodes
@@ -85,6 +113,9 @@ module _ (g : Geometry) (image : List ℕ) where
     bad = ap (λ (l : List ℕ). first_bad g nothing_met (flat_map (met_of g image) l)) all_left ∙ ap (λ (met : ℕ → Bool). first_bad g met (flat_map (met_of g image) (left 1))) none;
     pasts = ap (find (some_reached g image (is_past g image))) all_left;
     tails = ap (find (some_reached g image (has_tail g image))) all_left;
+    mets = λ b.
+        ap (λ (met : ℕ → Bool). met b || is_among (map (λ m. m.block) (flat_map (met_of g image) (left 1))) b) (sym none)
+        ∙ ap (λ (l : List ℕ). is_among (map (λ m. m.block) (flat_map (met_of g image) l)) b) (sym all_left);
   }
 
   pub at_free : (k : ℕ) (owner : ℕ → ℕ) (past tail : Option ℕ) → k < inode_count g + 1 → is_used k ≡ false → IsAt k owner past tail → IsAt (k + 1) owner past tail
@@ -93,6 +124,7 @@ module _ (g : Geometry) (image : List ℕ) where
         bad = was.bad ∙ ap (λ (l : List ℕ). first_bad g (met_by owner) (flat_map (met_of g image) l)) same;
         pasts = was.pasts ∙ ap (λ (l : List ℕ). option_or past (find (some_reached g image (is_past g image)) l)) same;
         tails = was.tails ∙ ap (λ (l : List ℕ). option_or tail (find (some_reached g image (has_tail g image)) l)) same;
+        mets = λ b. ap (λ (l : List ℕ). met_by owner b || is_among (map (λ m. m.block) (flat_map (met_of g image) l)) b) (sym same) ∙ was.mets b;
       }
 
   module _ (k : ℕ) (p : Progress) (past tail : Option ℕ) (below : k < inode_count g + 1) (used : is_used k ≡ true) (was : IsAt k p.owner past tail) where
@@ -103,19 +135,29 @@ module _ (g : Geometry) (image : List ℕ) where
     at_bad bad stops =
         sym (was.bad ∙ ap (λ (l : List ℕ). first_bad g (met_by p.owner) (flat_map (met_of g image) l)) here ∙ stops.rest (flat_map (met_of g image) (left (k + 1))))
 
-    pub at_used : (q : Progress) (owner : ℕ → ℕ) (new_past new_tail : Option ℕ) → p.past ≡ false → p.tail ≡ false
+    pub at_used : (q : Progress) (owner : ℕ → ℕ) (new_past new_tail : Option ℕ) → k ≢ 0 → p.past ≡ false → p.tail ≡ false
         → GoesOn g image k (size_of (inode_of g image k)) p (reached g image (inode_of g image k)) q → owner ≡ q.owner
         → new_past ≡ option_or past (if q.past then Some k else None) → new_tail ≡ option_or tail (if q.tail then Some k else None) → IsAt (k + 1) owner new_past new_tail
-    at_used q owner new_past new_tail no_past no_tail goes same is_past' is_tail' =
+    at_used q owner new_past new_tail some no_past no_tail goes same is_past' is_tail' =
         let size : ℕ = size_of (inode_of g image k) in
         let list : List Reached = reached g image (inode_of g image k) in
         let found_past : q.past ≡ list_any (is_past g image size) list =
         ap (λ (s : Progress). s.past) goes.after ∙ after-past k size p list ∙ ap (λ (b : Bool). b || list_any (is_past g image size) list) no_past in
         let found_tail : q.tail ≡ list_any (has_tail g image size) list =
         ap (λ (s : Progress). s.tail) goes.after ∙ after-tail k size p list ∙ ap (λ (b : Bool). b || list_any (has_tail g image size) list) no_tail in
+        let more : List Met = flat_map (met_of g image) (left (k + 1)) in
+        let block : Met → ℕ = λ m. m.block in
+        let met_now : (b : ℕ) → met_by owner b ≡ (met_by p.owner b || is_among (map block (met_at k list)) b) = λ b.
+        ap (λ (o : ℕ → ℕ). met_by o b) same ∙ ap (λ (s : Progress). met_by s.owner b) goes.after ∙ after-met k size p list b some in
+        let both : (b : ℕ) → (is_among (map block (met_at k list)) b || is_among (map block more) b) ≡ is_among (map block (met_at k list ++ more)) b = λ b.
+        sym (list_any-append (λ n. n == b) (map block (met_at k list)) (map block more)) ∙ ap (λ (l : List ℕ). is_among l b) (sym (map-append block (met_at k list) more)) in
         let more_past : Option ℕ = find (some_reached g image (is_past g image)) (left (k + 1)) in
         let more_tail : Option ℕ = find (some_reached g image (has_tail g image)) (left (k + 1)) in
         record {
+          mets = λ b.
+              ap (λ (t : Bool). t || is_among (map block more) b) (met_now b) ∙ or_or (met_by p.owner b) (is_among (map block (met_at k list)) b) (is_among (map block more) b)
+              ∙ ap (λ (t : Bool). met_by p.owner b || t) (both b)
+              ∙ ap (λ (l : List ℕ). met_by p.owner b || is_among (map block (flat_map (met_of g image) l)) b) (sym here) ∙ was.mets b;
           bad = was.bad ∙ ap (λ (l : List ℕ). first_bad g (met_by p.owner) (flat_map (met_of g image) l)) here ∙ goes.rest (flat_map (met_of g image) (left (k + 1)))
               ∙ ap (λ (o : ℕ → ℕ). first_bad g (met_by o) (flat_map (met_of g image) (left (k + 1)))) (sym same);
           pasts = was.pasts ∙ ap (λ (l : List ℕ). option_or past (find (some_reached g image (is_past g image)) l)) here
@@ -139,3 +181,8 @@ module _ (g : Geometry) (image : List ℕ) where
 
     pub end-tail : tail ≡ tail_flaw g image
     end-tail = sym (was.tails ∙ ap (λ (l : List ℕ). option_or tail (find (some_reached g image (has_tail g image)) l)) none_left ∙ or_none tail)
+
+    pub end-met : (b : ℕ) → met_by owner b ≡ is_among (walked g image) b
+    end-met b =
+        sym (or_false_after (met_by owner b))
+        ∙ ap (λ (l : List ℕ). met_by owner b || is_among (map (λ m. m.block) (flat_map (met_of g image) l)) b) (sym none_left) ∙ was.mets b

@@ -1,10 +1,12 @@
 // The walk over the blocks of all inodes: conditions 6 to 9 of a sound image.
-ghost use Rattle.std.specs.Prelude.{◌≡◌, ◌≤◌, ◌*◌, ⊤, None, length, replicate, IfOk, IfErr};
+ghost use Rattle.std.specs.Prelude.{◌≡◌, ◌≤◌, ◌*◌, ⊤, ℕ, None, length, replicate, slice_index, IfOk, IfErr};
 ghost use Rattle.sv_dev.specs.Causes.{Rose};
 ghost use Rattle.sv_form.specs.Geometry.{IsGeometry};
 ghost use Rattle.sv_check.specs.Fault.{Says};
 ghost use Rattle.sv_check.specs.PastSize.{past_size_flaw, tail_flaw};
-ghost use Rattle.sv_check.specs.Walk.{first_bad, nothing_met, walk};
+ghost use Rattle.sv_check.specs.Chain.{walked};
+ghost use Rattle.sv_check.specs.Progress.{met_by};
+ghost use Rattle.sv_check.specs.Walk.{is_among, first_bad, nothing_met, walk};
 
 use crate::inodes::turn_to_inode;
 use crate::{CheckFault, Met, Walk, is_free};
@@ -22,7 +24,8 @@ pub struct BlockWalk {
     pub tail: Option<u16>,
 }
 
-/// Walks over the used inodes, ascending, and the blocks of each. It reads each block of the inode list once, each
+/// Walks over the used inodes, ascending, and the blocks of each. Where no number is bad, the blocks with an owner are those
+/// that the walk met. It reads each block of the inode list once, each
 /// indirect block once, and the last page of each inode once. The slice has a block's length.
 pub fn walk_blocks<D: Disk>(
     alloc: Global,
@@ -36,6 +39,8 @@ pub fn walk_blocks<D: Disk>(
     ensures bad { IfOk result (λ w. w.bad ≡ first_bad sizes.now nothing_met (walk sizes.now (D.content disk.old))) }
     ensures past { IfOk result (λ w. w.bad ≡ None → w.past ≡ past_size_flaw sizes.now (D.content disk.old)) }
     ensures tail { IfOk result (λ w. w.bad ≡ None → w.tail ≡ tail_flaw sizes.now (D.content disk.old)) }
+    ensures owners { IfOk result (λ w. length w.walk.owner.items ≡ sizes.now.blocks) }
+    ensures met { IfOk result (λ w. w.bad ≡ None → (b : ℕ) → met_by (slice_index w.walk.owner.items) b ≡ is_among (walked sizes.now (D.content disk.old)) b) }
     ensures err { IfErr result (Says (λ _ _. ⊥) (Rose (D.faults disk.old) (D.faults disk.new)) ⊤) }
     ensures content { D.content disk.new ≡ D.content disk.old }
     ensures faults { D.faults disk.old ≤ D.faults disk.new }

@@ -6,7 +6,7 @@ use Rattle.sv_check.specs.InodeList.{is_free}
 use Rattle.sv_check.specs.Progress.{progress_of}
 use Rattle.sv_check.proofs.LineReads.{line_of-is}
 use Rattle.sv_check.proofs.WalkSteps.{went, stopped}
-use Rattle.sv_check.proofs.WholeWalk.{nothing-owned, some_if, walks_inode, is_used, at_start, at_free, at_bad, at_used, end-bad, end-past, end-tail}
+use Rattle.sv_check.proofs.WholeWalk.{nothing-owned, some_if, walks_inode, is_used, at_start, at_free, at_bad, at_used, end-bad, end-past, end-tail, end-met}
 use Rattle.sv_check.proofs.whole_walk.walk_blocks.Goals as goal
 
 pub loop-before-init : goal.loop-before-init
@@ -73,7 +73,7 @@ loop-before-preserved g c =
       owners = ap (λ v. length v.items) c.clear.ensures.owner ∙ c.in_ok-walk_inode.ensures.owners;
       no_past = c.clear.ensures.past;
       no_tail = c.clear.ensures.tail;
-      reached = at_used _ _ _ (progress_of c.loop-before.walk) _ _ below used c.loop-before.invariant.reached (progress_of c.walk_inode.new.self) _ _ _ c.loop-before.invariant.no_past
+      reached = at_used _ _ _ (progress_of c.loop-before.walk) _ _ below used c.loop-before.invariant.reached (progress_of c.walk_inode.new.self) _ _ _ (λ e. omega (arith, e)) c.loop-before.invariant.no_past
           c.loop-before.invariant.no_tail (went _ _ _ _ _ _ _ _ _ c.if-not-branch.false walks) (ap (λ v. slice_index v.items) c.clear.ensures.owner)
           (some_if _ _ _ _ _ c.or-past.ensures c.then_some.ensures) (some_if _ _ _ _ _ c.or-tail.ensures c.then_some-in-loop-before.ensures);
     }
@@ -86,3 +86,6 @@ returns-clause-past g c = λ _. end-past _ _ _ _ _ _ (omega (arith, c.loop-befor
 
 pub returns-clause-tail : goal.returns-clause-tail
 returns-clause-tail g c = λ _. end-tail _ _ _ _ _ _ (omega (arith, c.loop-before-test.false, c.inode_count-before-end.ensures)) c.loop-before.invariant.reached
+
+pub returns-clause-met : goal.returns-clause-met
+returns-clause-met g c = λ _. end-met _ _ _ _ _ _ (omega (arith, c.loop-before-test.false, c.inode_count-before-end.ensures)) c.loop-before.invariant.reached
