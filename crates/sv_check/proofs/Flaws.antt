@@ -5,11 +5,12 @@ use Rattle.sv_form.specs.Image.{geometry_of}
 use Rattle.sv_check.specs.declared.met.Met.{Met}
 use Rattle.sv_check.specs.declared.fault.CheckFault.{CheckFault}
 use Rattle.sv_check.specs.declared.fault.CheckFault.TheVariants.{Refused, Fault, NoMemory}
+use Rattle.sv_check.specs.Chain.{chain_flaw}
 use Rattle.sv_check.specs.Fault.{Says}
 use Rattle.sv_check.specs.InodeList.{kind_flaw, size_flaw}
 use Rattle.sv_check.specs.PastSize.{past_size_flaw, tail_flaw}
 use Rattle.sv_check.specs.Sizes.{IsSized}
-use Rattle.sv_check.specs.Sound.{Flaw, first_failing, flaw_from_4}
+use Rattle.sv_check.specs.Sound.{Flaw, IsWalked, first_failing, flaw_from_4}
 use Rattle.sv_check.specs.Walk.{BadFlaw, is_data_block, first_bad, nothing_met, walk, range_flaw, twice_flaw}
 
 holds : (n : ℕ) (flaw : Option ℕ) (rest : List (Option ℕ)) → flaw ≡ None → first_failing n (flaw ∷ rest) ≡ first_failing (n + 1) rest
@@ -47,6 +48,15 @@ module _ (image : List ℕ) (sized : IsSized image) (p : ℕ) where
           unfolding flaw_from_4
           fails_9 past here =
               inr (record { sized = sized; fails = holds 4 _ _ kind ∙ holds 5 _ _ size ∙ holds 6 _ _ range ∙ holds 7 _ _ twice ∙ holds 8 _ _ past ∙ fails 9 p _ _ here })
+
+-- the condition 10 fails where those before hold
+pub fails_10 : (image : List ℕ) (p : ℕ) → IsWalked image → chain_flaw (geometry_of image) image ≡ Some p → Flaw image 10 p
+unfolding flaw_from_4
+fails_10 image p w here =
+    inr (record {
+      sized = w.sized;
+      fails = holds 4 _ _ w.kind ∙ holds 5 _ _ w.size ∙ holds 6 _ _ w.range ∙ holds 7 _ _ w.twice ∙ holds 8 _ _ w.past_size ∙ holds 9 _ _ w.tail ∙ fails 10 p _ _ here;
+    })
 
 module _ (g : Geometry) (image : List ℕ) where
   -- there is no bad number
@@ -97,6 +107,9 @@ module _ (image : List ℕ) (sized : IsSized image) (kind : kind_flaw (geometry_
 module _ (f : Geometry → List ℕ → Option ℕ) (image : List ℕ) (g : Geometry) (found : Option ℕ) (same : g ≡ geometry_of image) (is : found ≡ f g image) where
   pub found_at : (n p : ℕ) → found ≡ Some n → p ≡ n → f (geometry_of image) image ≡ Some p
   found_at n p some e = ap (λ (k : Geometry). f k image) (sym same) ∙ sym is ∙ some ∙ ap (λ (x : ℕ). Some x) (sym e)
+
+  pub found_some : (p : ℕ) → found ≡ Some p → f (geometry_of image) image ≡ Some p
+  found_some p some = found_at p p some refl
 
   pub found_none : found ≡ None → f (geometry_of image) image ≡ None
   found_none none = ap (λ (k : Geometry). f k image) (sym same) ∙ sym is ∙ none

@@ -1,4 +1,5 @@
 mod AddressSteps
+mod ChainStart
 mod ChainWalk
 mod Flaws
 mod InodeSteps

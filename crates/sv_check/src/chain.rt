@@ -8,6 +8,7 @@ ghost use Rattle.sv_form.specs.Number.{number16};
 ghost use Rattle.sv_check.specs.Chain.{number, chain_from, first_broken, is_filled, list_in, reads_list};
 ghost use Rattle.sv_check.specs.ChainSteps.{Follows, met_in, met_of_list};
 ghost use Rattle.sv_check.specs.Fault.{Says};
+ghost use Rattle.sv_check.specs.Progress.{met_by};
 ghost use Rattle.sv_check.specs.Walk.{is_new, with_met};
 
 use crate::{CheckFault, block_in_memory};
@@ -74,6 +75,15 @@ pub struct MetBlocks {
 }
 
 impl MetBlocks {
+    /// The blocks that have an owner, which are those that the walk met.
+    pub fn from_owners(alloc: Global, owners: &[u16]) -> Result<MetBlocks, NoMemory>
+        ensures met { IfOk result (λ m. met_in m.met.items ≡ met_by (slice_index owners.now)) }
+        ensures blocks { IfOk result (λ m. length m.met.items ≡ length owners.now) }
+    {
+        let met = owners.iter().map(|owner| *owner != 0).collect(alloc)?;
+        Ok(MetBlocks { met, bad: 0 })
+    }
+
     // Meets a number, if it is a data block that was not met before.
     fn take(&mut self, sizes: &Geometry, b: u32) -> bool
         requires blocks { length self.old.met.items ≡ sizes.now.blocks }

@@ -1,25 +1,29 @@
 // The check of an image, condition by condition.
-ghost use Rattle.std.specs.Prelude.{◌≡◌, ◌≤◌, ⊤, None, length, IfOk, IfErr};
+ghost use Rattle.std.specs.Prelude.{◌≡◌, ◌≤◌, ⊤, ℕ, None, length, slice_index, IfOk, IfErr};
 ghost use Rattle.sv_dev.specs.Causes.{Rose};
 ghost use Rattle.sv_form.specs.Image.{geometry_of, superblock_of};
 ghost use Rattle.sv_form.specs.Superblock.{IsSuper};
+ghost use Rattle.sv_check.specs.Chain.{chain_flaw, walked};
 ghost use Rattle.sv_check.specs.Fault.{Says};
 ghost use Rattle.sv_check.specs.InodeList.{kind_flaw, size_flaw, used_flags};
 ghost use Rattle.sv_check.specs.PastSize.{past_size_flaw, tail_flaw};
+ghost use Rattle.sv_check.specs.Progress.{met_by};
 ghost use Rattle.sv_check.specs.Sizes.{IsSized};
-ghost use Rattle.sv_check.specs.Sound.{Flaw, IsWalked};
-ghost use Rattle.sv_check.specs.Walk.{BadFlaw, first_bad, nothing_met, walk};
+ghost use Rattle.sv_check.specs.Sound.{Flaw, IsChained, IsWalked};
+ghost use Rattle.sv_check.specs.Walk.{BadFlaw, first_bad, is_among, nothing_met, walk};
 
-use crate::{BlockWalk, CheckFault, Met, read_inode_list, read_sizes, walk_blocks};
+use crate::{
+    BlockWalk, CheckFault, Met, MetBlocks, follow_chain, read_inode_list, read_sizes, walk_blocks,
+};
 use std::alloc::Global;
 use sv_dev::Disk;
 use sv_form::{Geometry, Super};
 
-/// Decides the first nine conditions of a sound image: the sizes, each inode, and the walk over their blocks. It gives
-/// the superblock where they hold, and says nothing of the others. Each block of the inode list is read twice, each
-/// indirect block and each last page once, and no other page.
-pub fn check_walk<D: Disk>(alloc: Global, disk: &mut D) -> Result<Super, CheckFault>
-    ensures walked { IfOk result (λ s. IsWalked (D.content disk.old)) }
+/// Decides the first ten conditions of a sound image: the sizes, each inode, the walk over their blocks, and the chain of
+/// free blocks. It gives the superblock where they hold, and says nothing of the others. Each block of the inode list is
+/// read twice, each indirect block, each last page and each link block once, and no other block but the superblock's.
+pub fn check_chain<D: Disk>(alloc: Global, disk: &mut D) -> Result<Super, CheckFault>
+    ensures chained { IfOk result (λ s. IsChained (D.content disk.old)) }
     ensures head { IfOk result (λ s. IsSuper (superblock_of (D.content disk.old)) s) }
     ensures err { IfErr result (Says (Flaw (D.content disk.old)) (Rose (D.faults disk.old) (D.faults disk.new)) ⊤) }
     ensures content { D.content disk.new ≡ D.content disk.old }
@@ -29,7 +33,8 @@ pub fn check_walk<D: Disk>(alloc: Global, disk: &mut D) -> Result<Super, CheckFa
     let sizes = head.geometry();
     let mut block = vec![in alloc; 0; sizes.block_size as usize]?;
     let _used = check_inodes(alloc, disk, &sizes, &mut block)?;
-    let _walk = check_blocks(alloc, disk, &sizes, &mut block)?;
+    let walk = check_blocks(alloc, disk, &sizes, &mut block)?;
+    let _met = check_free_blocks(alloc, disk, &sizes, &head, &walk.walk.owner)?;
     Ok(head)
 }
 
@@ -82,6 +87,8 @@ fn check_blocks<D: Disk>(
     requires size { size_flaw (geometry_of (D.content disk.old)) (D.content disk.old) ≡ None }
     requires block { length block.old ≡ sizes.now.block_size }
     ensures walked { IfOk result (λ w. IsWalked (D.content disk.old)) }
+    ensures owners { IfOk result (λ w. length w.walk.owner.items ≡ sizes.now.blocks) }
+    ensures met { IfOk result (λ w. (b : ℕ) → met_by (slice_index w.walk.owner.items) b ≡ is_among (walked sizes.now (D.content disk.old)) b) }
     ensures err { IfErr result (Says (Flaw (D.content disk.old)) (Rose (D.faults disk.old) (D.faults disk.new)) ⊤) }
     ensures content { D.content disk.new ≡ D.content disk.old }
     ensures faults { D.faults disk.old ≤ D.faults disk.new }
@@ -122,4 +129,38 @@ fn refused_at(sizes: &Geometry, bad: Met) -> CheckFault
         number: 6,
         place: u32::from(bad.inode),
     }
+}
+
+// The condition 10, where those before hold, from the owner of each block: the blocks that the walk and the chain met.
+fn check_free_blocks<D: Disk>(
+    alloc: Global,
+    disk: &mut D,
+    sizes: &Geometry,
+    head: &Super,
+    owners: &[u16],
+) -> Result<MetBlocks, CheckFault>
+    requires walked { IsWalked (D.content disk.old) }
+    requires sizes { sizes.now ≡ geometry_of (D.content disk.old) }
+    requires head { IsSuper (superblock_of (D.content disk.old)) head.now }
+    requires blocks { length owners.now ≡ sizes.now.blocks }
+    requires owners { (b : ℕ) → met_by (slice_index owners.now) b ≡ is_among (walked sizes.now (D.content disk.old)) b }
+    ensures chained { IfOk result (λ m. IsChained (D.content disk.old)) }
+    ensures err { IfErr result (Says (Flaw (D.content disk.old)) (Rose (D.faults disk.old) (D.faults disk.new)) ⊤) }
+    ensures content { D.content disk.new ≡ D.content disk.old }
+    ensures faults { D.faults disk.old ≤ D.faults disk.new }
+{
+    let mut met = MetBlocks::from_owners(alloc, owners)?;
+    let mut first = Vec::new(alloc);
+    first.extend_from_slice(head.free.as_slice())?;
+    let bad = match follow_chain(alloc, disk, sizes, &mut met, first) {
+        Ok(bad) => bad,
+        Err(fault) => return Err(fault),
+    };
+    if let Some(b) = bad {
+        return Err(CheckFault::Refused {
+            number: 10,
+            place: b,
+        });
+    }
+    Ok(met)
 }

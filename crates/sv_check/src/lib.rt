@@ -1,7 +1,7 @@
 //! Whether an image is sound. A checker answers Ok exactly where every condition holds, and else the first that fails.
 //! What the sixteen conditions are stands in specs/Sound.antt and the files that it names.
 //!
-//! - `check_walk` decides the first nine conditions: the sizes, the inodes, and the walk over their blocks.
+//! - `check_chain` decides the first ten conditions: the sizes, the inodes, the walk over their blocks, and the free blocks.
 //! - `read_sizes` decides the first three: it reads the superblock, or says which fails first, and where.
 //! - `read_inode_list` and `walk_blocks` are its two passes; `Walk` is the walk over the blocks of one inode.
 //! - `follow_chain` follows a chain of free blocks to its first bad number, from the blocks that were met before.
@@ -20,7 +20,7 @@ mod whole_walk;
 
 pub use blocks::{read_block, read_inode};
 pub use chain::{MetBlocks, follow_chain, list_in, reads_list};
-pub use check::check_walk;
+pub use check::check_chain;
 pub use fault::CheckFault;
 pub use inodes::{InodeList, is_free, read_inode_list};
 pub use met::Met;

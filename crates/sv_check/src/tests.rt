@@ -1,7 +1,7 @@
-// Worked rows: a small sound image, and one change of it for each of the first nine conditions.
+// Worked rows: small sound images, and one change of them for each of the first ten conditions.
 ghost use Rattle.std.specs.Prelude.{◌+◌, ◌<◌, ◌^◌, length};
 
-use crate::{CheckFault, MetBlocks, check_walk, follow_chain};
+use crate::{CheckFault, MetBlocks, check_chain, follow_chain};
 use std::alloc::{AllocError, Global};
 use std::process::Abort;
 use std::test::Fail as Failure;
@@ -35,36 +35,35 @@ const INODE_1: usize = 2_048;
 
 const INODE_3: usize = 2_176;
 
-// The number and the place of the first of nine conditions that fails on the small image with these bytes changed, and
-// no number where none does.
-fn first_of_nine(alloc: Global, at: usize, bytes: &[u8]) -> Result<(u8, u32), Failure>
+// The number and the place of the first condition that fails on the small image with these bytes changed, and no number
+// where none does.
+fn first_failing(alloc: Global, at: usize, bytes: &[u8]) -> Result<(u8, u32), Failure>
     requires { at + length bytes.now < 2 ^ 32 }
 {
     let mut image = small_image(alloc)?;
     put(&mut image, at, bytes);
-    let mut disk = MemDisk::new(image, Vec::new(alloc));
-    match check_walk(alloc, &mut disk) {
-        Ok(_) => Ok((0, 0)),
-        Err(CheckFault::Refused { number, place }) => Ok((number, place)),
-        Err(_) => Err("no answer")?,
-    }
+    answer(alloc, &image)
 }
 
 #[test]
-fn nine_conditions(rt: HostRuntime) -> Result<(), Failure> {
+fn ten_conditions(rt: HostRuntime) -> Result<(), Failure> {
     let alloc = rt.alloc();
     let file = b"\xa4\x81\x01\0\0\0\0\0\x06\0\0\0\x04";
-    assert_eq!(rt; first_of_nine(alloc, 0, b"")?, (0, 0));
-    assert_eq!(rt; first_of_nine(alloc, 512, b"\0")?, (1, 0));
-    assert_eq!(rt; first_of_nine(alloc, 516, b"\x03")?, (2, 3));
-    assert_eq!(rt; first_of_nine(alloc, 520, b"\x06")?, (3, 0));
-    assert_eq!(rt; first_of_nine(alloc, INODE_1, file)?, (4, 1));
-    assert_eq!(rt; first_of_nine(alloc, 2_120, b"\x28")?, (5, 2));
-    assert_eq!(rt; first_of_nine(alloc, INODE_3 + 12, b"\x05")?, (6, 3));
-    assert_eq!(rt; first_of_nine(alloc, INODE_3 + 12, b"\x02")?, (6, 3));
-    assert_eq!(rt; first_of_nine(alloc, INODE_3 + 12, b"\x03")?, (7, 3));
-    assert_eq!(rt; first_of_nine(alloc, INODE_3 + 8, b"\0")?, (8, 3));
-    assert_eq!(rt; first_of_nine(alloc, 4_196, b"\x01")?, (9, 3));
+    assert_eq!(rt; first_failing(alloc, 0, b"")?, (0, 0));
+    assert_eq!(rt; first_failing(alloc, 512, b"\0")?, (1, 0));
+    assert_eq!(rt; first_failing(alloc, 516, b"\x03")?, (2, 3));
+    assert_eq!(rt; first_failing(alloc, 520, b"\x06")?, (3, 0));
+    assert_eq!(rt; first_failing(alloc, INODE_1, file)?, (4, 1));
+    assert_eq!(rt; first_failing(alloc, 2_120, b"\x28")?, (5, 2));
+    assert_eq!(rt; first_failing(alloc, INODE_3 + 12, b"\x05")?, (6, 3));
+    assert_eq!(rt; first_failing(alloc, INODE_3 + 12, b"\x02")?, (6, 3));
+    assert_eq!(rt; first_failing(alloc, INODE_3 + 12, b"\x03")?, (7, 3));
+    assert_eq!(rt; first_failing(alloc, INODE_3 + 8, b"\0")?, (8, 3));
+    assert_eq!(rt; first_failing(alloc, 4_196, b"\x01")?, (9, 3));
+    assert_eq!(rt;
+        first_failing(alloc, 524, b"\x02\0\0\0\0\0\0\0\x03")?,
+        (10, 3)
+    );
     Ok(())
 }
 
@@ -91,7 +90,7 @@ fn answer(alloc: Global, image: &[u8]) -> Result<(u8, u32), Failure> {
     let mut copy = Vec::new(alloc);
     copy.extend_from_slice(image)?;
     let mut disk = MemDisk::new(copy, Vec::new(alloc));
-    match check_walk(alloc, &mut disk) {
+    match check_chain(alloc, &mut disk) {
         Ok(_) => Ok((0, 0)),
         Err(CheckFault::Refused { number, place }) => Ok((number, place)),
         Err(_) => Err("no answer")?,
@@ -110,12 +109,79 @@ fn reads_and_faults(rt: HostRuntime) -> Result<(), Failure> {
         Access::Read(4_096),
     ];
     let mut disk = MemDisk::new(small_image(alloc)?, Vec::new(alloc));
-    assert!(rt; check_walk(alloc, &mut disk).is_ok());
+    assert!(rt; check_chain(alloc, &mut disk).is_ok());
     assert!(rt; disk.log() == log.as_slice());
     for k in 1..=5 {
         let fails = vec![in alloc; Fail::Read(k)]?;
         let mut disk = MemDisk::new(small_image(alloc)?, fails);
-        assert!(rt; matches!(check_walk(alloc, &mut disk), Err(CheckFault::Fault)));
+        assert!(rt; matches!(check_chain(alloc, &mut disk), Err(CheckFault::Fault)));
+    }
+    Ok(())
+}
+
+// An image of 64 blocks and 32 inodes that has a root in block 4 and nothing else. Its list of free blocks is 14 down to
+// 5, and then that of block 14; its inode cache is 32 down to 3.
+fn made_image(alloc: Global) -> Result<Vec<u8>, AllocError> {
+    let mut image = vec![in alloc; 0; 65_536]?;
+    put(&mut image, 512, b"SV5F\x02\0\x04\0\x40\0\0\0\x0a\0\x1e\0");
+    for k in 0..10 {
+        put(&mut image, 528 + 4 * usize::from(k), &[14 - k]);
+    }
+    for k in 0..30 {
+        put(&mut image, 728 + 2 * usize::from(k), &[32 - k]);
+    }
+    put(&mut image, 2_112, b"\xed\x41\x02\0\0\0\0\0\x20\0\0\0\x04");
+    put(&mut image, 4_096, b"\x02\0.");
+    put(&mut image, 4_112, b"\x02\0..");
+    put(&mut image, LINK_BLOCK, b"\x32");
+    for k in 0..49 {
+        put(&mut image, LINK_BLOCK + 8 + 4 * usize::from(k), &[63 - k]);
+    }
+    Ok(image)
+}
+
+const LINK_BLOCK: usize = 14_336;
+
+// A list that leads to itself, one of 51 numbers, one with a hole, one that ends in a number of the other list, and one
+// in which a block of the walk stands.
+#[test]
+fn link_blocks(rt: HostRuntime) -> Result<(), Failure> {
+    let alloc = rt.alloc();
+    let mut image = made_image(alloc)?;
+    assert_eq!(rt; answer(alloc, &image)?, (0, 0));
+    put(&mut image, LINK_BLOCK + 4, b"\x0e");
+    assert_eq!(rt; answer(alloc, &image)?, (10, 14));
+    put(&mut image, LINK_BLOCK, b"\x33\0\0\0\0");
+    assert_eq!(rt; answer(alloc, &image)?, (10, 14));
+    put(&mut image, LINK_BLOCK, b"\x32\0\0\0\0\0\0\0\0");
+    assert_eq!(rt; answer(alloc, &image)?, (10, 14));
+    put(&mut image, LINK_BLOCK + 8, b"\x0d");
+    assert_eq!(rt; answer(alloc, &image)?, (10, 13));
+    put(&mut image, LINK_BLOCK + 8, b"\x04");
+    assert_eq!(rt; answer(alloc, &image)?, (10, 4));
+    Ok(())
+}
+
+// Both blocks of the inode list twice, the root's page, and the link block.
+#[test]
+fn reads_of_the_chain(rt: HostRuntime) -> Result<(), Failure> {
+    let alloc = rt.alloc();
+    let log = [
+        Access::Read(512),
+        Access::Read(2_048),
+        Access::Read(3_072),
+        Access::Read(2_048),
+        Access::Read(4_096),
+        Access::Read(3_072),
+        Access::Read(14_336),
+    ];
+    let mut disk = MemDisk::new(made_image(alloc)?, Vec::new(alloc));
+    assert!(rt; check_chain(alloc, &mut disk).is_ok());
+    assert!(rt; disk.log() == log.as_slice());
+    for k in 1..=7 {
+        let fails = vec![in alloc; Fail::Read(k)]?;
+        let mut disk = MemDisk::new(made_image(alloc)?, fails);
+        assert!(rt; matches!(check_chain(alloc, &mut disk), Err(CheckFault::Fault)));
     }
     Ok(())
 }
