@@ -1,16 +1,16 @@
 -- The first condition that fails, from those before it and the place where it does.
-use Rattle.std.proofs.Common.{◌≡◌, ◌+◌, ◌∷◌, ◌∙◌, ℕ, Bool, true, false, List, Option, Some, None, ap, sym, refl, subst, inr, if◌then◌else◌, option_and_then}
+use Rattle.std.proofs.Common.{◌≡◌, ◌+◌, ◌∷◌, ◌∙◌, ℕ, Bool, true, false, List, Option, Some, None, ap, sym, refl, subst, inr, drop, if◌then◌else◌, option_and_then}
 use Rattle.sv_form.specs.declared.geometry.Geometry.{Geometry}
 use Rattle.sv_form.specs.Image.{geometry_of}
 use Rattle.sv_check.specs.declared.met.Met.{Met}
 use Rattle.sv_check.specs.declared.fault.CheckFault.{CheckFault}
 use Rattle.sv_check.specs.declared.fault.CheckFault.TheVariants.{Refused, Fault, NoMemory}
-use Rattle.sv_check.specs.Chain.{chain_flaw}
+use Rattle.sv_check.specs.Chain.{chain_flaw, lost_flaw}
 use Rattle.sv_check.specs.Fault.{Says}
 use Rattle.sv_check.specs.InodeList.{kind_flaw, size_flaw}
 use Rattle.sv_check.specs.PastSize.{past_size_flaw, tail_flaw}
 use Rattle.sv_check.specs.Sizes.{IsSized}
-use Rattle.sv_check.specs.Sound.{Flaw, IsWalked, first_failing, flaw_from_4}
+use Rattle.sv_check.specs.Sound.{Flaw, IsWalked, first_failing, flaws_from_4, flaw_from_4}
 use Rattle.sv_check.specs.Walk.{BadFlaw, is_data_block, first_bad, nothing_met, walk, range_flaw, twice_flaw}
 
 holds : (n : ℕ) (flaw : Option ℕ) (rest : List (Option ℕ)) → flaw ≡ None → first_failing n (flaw ∷ rest) ≡ first_failing (n + 1) rest
@@ -18,6 +18,10 @@ holds n flaw rest e = ap (λ (o : Option ℕ). first_failing n (o ∷ rest)) e
 
 fails : (n p : ℕ) (flaw : Option ℕ) (rest : List (Option ℕ)) → flaw ≡ Some p → first_failing n (flaw ∷ rest) ≡ Some (n, p)
 fails n p flaw rest e = ap (λ (o : Option ℕ). first_failing n (o ∷ rest)) e
+
+-- the conditions 10 to 16
+abbrev flaws_from_10 : Geometry → List ℕ → List (Option ℕ)
+flaws_from_10 g image = drop 6 (flaws_from_4 g image)
 
 module _ (image : List ℕ) (sized : IsSized image) (p : ℕ) where
   pub fails_4 : kind_flaw (geometry_of image) image ≡ Some p → Flaw image 4 p
@@ -49,14 +53,17 @@ module _ (image : List ℕ) (sized : IsSized image) (p : ℕ) where
           fails_9 past here =
               inr (record { sized = sized; fails = holds 4 _ _ kind ∙ holds 5 _ _ size ∙ holds 6 _ _ range ∙ holds 7 _ _ twice ∙ holds 8 _ _ past ∙ fails 9 p _ _ here })
 
--- the condition 10 fails where those before hold
-pub fails_10 : (image : List ℕ) (p : ℕ) → IsWalked image → chain_flaw (geometry_of image) image ≡ Some p → Flaw image 10 p
-unfolding flaw_from_4
-fails_10 image p w here =
-    inr (record {
-      sized = w.sized;
-      fails = holds 4 _ _ w.kind ∙ holds 5 _ _ w.size ∙ holds 6 _ _ w.range ∙ holds 7 _ _ w.twice ∙ holds 8 _ _ w.past_size ∙ holds 9 _ _ w.tail ∙ fails 10 p _ _ here;
-    })
+module _ (image : List ℕ) (w : IsWalked image) where
+  -- what is first where the first nine conditions hold
+  from_10 : flaw_from_4 image ≡ first_failing 10 (flaws_from_10 (geometry_of image) image)
+  unfolding flaw_from_4
+  from_10 = holds 4 _ _ w.kind ∙ holds 5 _ _ w.size ∙ holds 6 _ _ w.range ∙ holds 7 _ _ w.twice ∙ holds 8 _ _ w.past_size ∙ holds 9 _ _ w.tail
+
+  pub fails_10 : (p : ℕ) → chain_flaw (geometry_of image) image ≡ Some p → Flaw image 10 p
+  fails_10 p here = inr (record { sized = w.sized; fails = from_10 ∙ fails 10 p _ _ here })
+
+  pub fails_11 : (p : ℕ) → chain_flaw (geometry_of image) image ≡ None → lost_flaw (geometry_of image) image ≡ Some p → Flaw image 11 p
+  fails_11 p chain here = inr (record { sized = w.sized; fails = from_10 ∙ holds 10 _ _ chain ∙ fails 11 p _ _ here })
 
 module _ (g : Geometry) (image : List ℕ) where
   -- there is no bad number

@@ -1,4 +1,5 @@
 mod AddressSteps
+mod ChainMet
 mod ChainStart
 mod ChainWalk
 mod Flaws

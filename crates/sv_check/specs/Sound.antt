@@ -65,10 +65,11 @@ pub record IsWalked (image : List ℕ) : Type 0 where
   pub past_size : past_size_flaw (geometry_of image) image ≡ None
   pub tail : tail_flaw (geometry_of image) image ≡ None
 
--- the first ten conditions hold: those nine, and the chain of free blocks
+-- the first eleven conditions hold: those nine, the chain of free blocks, and that walk and chain miss no data block
 pub record IsChained (image : List ℕ) : Type 0 where
   pub walked : IsWalked image
   pub chain : chain_flaw (geometry_of image) image ≡ None
+  pub lost : lost_flaw (geometry_of image) image ≡ None
 
 -- ---- the tree of a sound image
 

@@ -1,12 +1,12 @@
-// The chain of free blocks (Bach, chapter 4.7): condition 10 of a sound image.
-ghost use Rattle.std.specs.Prelude.{◌≡◌, ◌≤◌, ◌<◌, ◌*◌, ⊤, ℕ, List, map, drop, length, true, false, slice_set, slice_index, ◌-◌, ◌≢◌, IfOk, IfErr};
+// The chain of free blocks (Bach, chapter 4.7): conditions 10 and 11 of a sound image.
+ghost use Rattle.std.specs.Prelude.{◌≡◌, ◌≤◌, ◌<◌, ◌*◌, ⊤, ℕ, List, None, not, map, drop, find, length, true, false, slice_set, slice_index, ◌-◌, ◌≢◌, IfOk, IfErr};
 ghost use Rattle.std.specs.List.{list_all, range_with_len};
 ghost use Rattle.std.specs.Bool.{OnTrue, OnFalse};
 ghost use Rattle.sv_dev.specs.Causes.{Rose};
 ghost use Rattle.sv_form.specs.Geometry.{IsGeometry};
 ghost use Rattle.sv_form.specs.Number.{number16};
 ghost use Rattle.sv_check.specs.Chain.{number, chain_from, first_broken, is_filled, list_in, reads_list};
-ghost use Rattle.sv_check.specs.ChainSteps.{Follows, met_in, met_of_list};
+ghost use Rattle.sv_check.specs.ChainSteps.{Follows, met_in, met_of_list, numbers_of, with_each};
 ghost use Rattle.sv_check.specs.Fault.{Says};
 ghost use Rattle.sv_check.specs.Progress.{met_by};
 ghost use Rattle.sv_check.specs.Walk.{is_new, with_met};
@@ -110,6 +110,7 @@ impl MetBlocks {
     fn take_each(&mut self, sizes: &Geometry, numbers: &[u32]) -> bool
         requires blocks { length self.old.met.items ≡ sizes.now.blocks }
         ensures follows { (image : List ℕ) → Follows sizes.now image (met_in self.old.met.items) (map number numbers.now) result self.new.bad (met_in self.new.met.items) }
+        ensures met { OnTrue result ((b : ℕ) → met_in self.new.met.items b ≡ with_each (met_in self.old.met.items) numbers.now b) }
         ensures inside { OnTrue result ((k : ℕ) → k < length numbers.now → slice_index numbers.now k < sizes.now.blocks) }
         ensures blocks { length self.new.met.items ≡ sizes.now.blocks }
     {
@@ -125,6 +126,7 @@ impl MetBlocks {
     fn take_list(&mut self, sizes: &Geometry, numbers: &[u32]) -> bool
         requires blocks { length self.old.met.items ≡ sizes.now.blocks }
         ensures follows { (image : List ℕ) → Follows sizes.now image (met_in self.old.met.items) (met_of_list numbers.now) result self.new.bad (met_in self.new.met.items) }
+        ensures met { OnTrue result ((b : ℕ) → met_in self.new.met.items b ≡ with_each (met_in self.old.met.items) (numbers_of (met_of_list numbers.now)) b) }
         ensures inside { OnTrue result (slice_index numbers.now 0 ≢ 0 → slice_index numbers.now 0 < sizes.now.blocks) }
         ensures blocks { length self.new.met.items ≡ sizes.now.blocks }
     {
@@ -132,6 +134,19 @@ impl MetBlocks {
             return self.take_each(sizes, after_first(numbers));
         }
         self.take_each(sizes, numbers)
+    }
+
+    /// The first data block that was not met.
+    pub fn first_lost(&self, sizes: &Geometry) -> Option<u32>
+        requires blocks { length self.now.met.items ≡ sizes.now.blocks }
+        ensures lost { result ≡ find (λ b. not (met_in self.now.met.items b)) (range_with_len sizes.now.first_data (sizes.now.blocks - sizes.now.first_data)) }
+    {
+        for b in sizes.first_data..sizes.blocks {
+            if !self.met[b as usize] {
+                return Some(b);
+            }
+        }
+        None
     }
 }
 
@@ -155,7 +170,8 @@ fn link_of(numbers: &[u32]) -> u32
     numbers[0]
 }
 
-/// Follows the chain that begins with these numbers, and meets each. The first bad number, if there is one.
+/// Follows the chain that begins with these numbers, and meets each. It gives the first bad number, at which it stopped;
+/// where there is none, the blocks that are met are those from before and all of the chain.
 pub fn follow_chain<D: Disk>(
     alloc: Global,
     disk: &mut D,
@@ -168,6 +184,9 @@ pub fn follow_chain<D: Disk>(
     requires blocks { length met.old.met.items ≡ sizes.now.blocks }
     ensures broken { IfOk result (λ r. r ≡ first_broken sizes.now (D.content disk.old) (met_in met.old.met.items)
         (chain_from sizes.now (D.content disk.old) sizes.now.blocks first.items)) }
+    ensures met { IfOk result (λ r. r ≡ None → (b : ℕ) → met_in met.new.met.items b ≡ with_each (met_in met.old.met.items)
+        (numbers_of (chain_from sizes.now (D.content disk.old) sizes.now.blocks first.items)) b) }
+    ensures blocks { IfOk result (λ r. length met.new.met.items ≡ sizes.now.blocks) }
     ensures err { IfErr result (Says (λ _ _. ⊥) (Rose (D.faults disk.old) (D.faults disk.new)) ⊤) }
     ensures content { D.content disk.new ≡ D.content disk.old }
     ensures faults { D.faults disk.old ≤ D.faults disk.new }

@@ -1,5 +1,5 @@
 // The check of an image, condition by condition.
-ghost use Rattle.std.specs.Prelude.{◌≡◌, ◌≤◌, ⊤, ℕ, None, length, slice_index, IfOk, IfErr};
+ghost use Rattle.std.specs.Prelude.{◌≡◌, ◌≤◌, ⊤, ℕ, None, length, slice_index, IfOk, IfErr, OnOk};
 ghost use Rattle.sv_dev.specs.Causes.{Rose};
 ghost use Rattle.sv_form.specs.Image.{geometry_of, superblock_of};
 ghost use Rattle.sv_form.specs.Superblock.{IsSuper};
@@ -19,8 +19,8 @@ use std::alloc::Global;
 use sv_dev::Disk;
 use sv_form::{Geometry, Super};
 
-/// Decides the first ten conditions of a sound image: the sizes, each inode, the walk over their blocks, and the chain of
-/// free blocks. It gives the superblock where they hold, and says nothing of the others. Each block of the inode list is
+/// Decides the first eleven conditions of a sound image: the sizes, each inode, the walk over their blocks, the chain of
+/// free blocks, and that no data block is lost. It gives the superblock where they hold, and says nothing of the others. Each block of the inode list is
 /// read twice, each indirect block, each last page and each link block once, and no other block but the superblock's.
 pub fn check_chain<D: Disk>(alloc: Global, disk: &mut D) -> Result<Super, CheckFault>
     ensures chained { IfOk result (λ s. IsChained (D.content disk.old)) }
@@ -34,7 +34,7 @@ pub fn check_chain<D: Disk>(alloc: Global, disk: &mut D) -> Result<Super, CheckF
     let mut block = vec![in alloc; 0; sizes.block_size as usize]?;
     let _used = check_inodes(alloc, disk, &sizes, &mut block)?;
     let walk = check_blocks(alloc, disk, &sizes, &mut block)?;
-    let _met = check_free_blocks(alloc, disk, &sizes, &head, &walk.walk.owner)?;
+    check_free_blocks(alloc, disk, &sizes, &head, &walk.walk.owner)?;
     Ok(head)
 }
 
@@ -131,20 +131,20 @@ fn refused_at(sizes: &Geometry, bad: Met) -> CheckFault
     }
 }
 
-// The condition 10, where those before hold, from the owner of each block: the blocks that the walk and the chain met.
+// The conditions 10 and 11, where those before hold, from the owner of each block.
 fn check_free_blocks<D: Disk>(
     alloc: Global,
     disk: &mut D,
     sizes: &Geometry,
     head: &Super,
     owners: &[u16],
-) -> Result<MetBlocks, CheckFault>
+) -> Result<(), CheckFault>
     requires walked { IsWalked (D.content disk.old) }
     requires sizes { sizes.now ≡ geometry_of (D.content disk.old) }
     requires head { IsSuper (superblock_of (D.content disk.old)) head.now }
     requires blocks { length owners.now ≡ sizes.now.blocks }
     requires owners { (b : ℕ) → met_by (slice_index owners.now) b ≡ is_among (walked sizes.now (D.content disk.old)) b }
-    ensures chained { IfOk result (λ m. IsChained (D.content disk.old)) }
+    ensures chained { OnOk result (IsChained (D.content disk.old)) }
     ensures err { IfErr result (Says (Flaw (D.content disk.old)) (Rose (D.faults disk.old) (D.faults disk.new)) ⊤) }
     ensures content { D.content disk.new ≡ D.content disk.old }
     ensures faults { D.faults disk.old ≤ D.faults disk.new }
@@ -162,5 +162,11 @@ fn check_free_blocks<D: Disk>(
             place: b,
         });
     }
-    Ok(met)
+    if let Some(b) = met.first_lost(sizes) {
+        return Err(CheckFault::Refused {
+            number: 11,
+            place: b,
+        });
+    }
+    Ok(())
 }

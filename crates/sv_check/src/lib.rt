@@ -1,7 +1,8 @@
 //! Whether an image is sound. A checker answers Ok exactly where every condition holds, and else the first that fails.
 //! What the sixteen conditions are stands in specs/Sound.antt and the files that it names.
 //!
-//! - `check_chain` decides the first ten conditions: the sizes, the inodes, the walk over their blocks, and the free blocks.
+//! - `check_chain` decides the first eleven conditions: the sizes, the inodes, the walk over their blocks, the chain of free
+//!   blocks, and that no block is lost.
 //! - `read_sizes` decides the first three: it reads the superblock, or says which fails first, and where.
 //! - `read_inode_list` and `walk_blocks` are its two passes; `Walk` is the walk over the blocks of one inode.
 //! - `follow_chain` follows a chain of free blocks to its first bad number, from the blocks that were met before.

@@ -1,4 +1,4 @@
-// Worked rows: small sound images, and one change of them for each of the first ten conditions.
+// Worked rows: small sound images, and one change of them for each of the first eleven conditions.
 ghost use Rattle.std.specs.Prelude.{◌+◌, ◌<◌, ◌^◌, length};
 
 use crate::{CheckFault, MetBlocks, check_chain, follow_chain};
@@ -46,7 +46,7 @@ fn first_failing(alloc: Global, at: usize, bytes: &[u8]) -> Result<(u8, u32), Fa
 }
 
 #[test]
-fn ten_conditions(rt: HostRuntime) -> Result<(), Failure> {
+fn eleven_conditions(rt: HostRuntime) -> Result<(), Failure> {
     let alloc = rt.alloc();
     let file = b"\xa4\x81\x01\0\0\0\0\0\x06\0\0\0\x04";
     assert_eq!(rt; first_failing(alloc, 0, b"")?, (0, 0));
@@ -159,6 +159,17 @@ fn link_blocks(rt: HostRuntime) -> Result<(), Failure> {
     assert_eq!(rt; answer(alloc, &image)?, (10, 13));
     put(&mut image, LINK_BLOCK + 8, b"\x04");
     assert_eq!(rt; answer(alloc, &image)?, (10, 4));
+    Ok(())
+}
+
+// The list in the superblock ends before its last number, which is block 5.
+#[test]
+fn lost_block(rt: HostRuntime) -> Result<(), Failure> {
+    let alloc = rt.alloc();
+    let mut image = made_image(alloc)?;
+    put(&mut image, 524, b"\x09");
+    put(&mut image, 564, b"\0");
+    assert_eq!(rt; answer(alloc, &image)?, (11, 5));
     Ok(())
 }
 

@@ -1,12 +1,13 @@
-use Rattle.std.proofs.Common.{◌≡◌, ◌∙◌, sym, ap, refl, true, false, arith, slice_index, List, ℕ}
+use Rattle.std.proofs.Common.{◌≡◌, ◌∙◌, sym, ap, refl, subst, true, false, arith, slice_index, List, ℕ}
 use Rattle.sv_form.specs.Image.{block_of}
 use Rattle.sv_check.specs.Chain.{list_in, reads_list}
-use Rattle.sv_check.specs.ChainSteps.{met_in, met_of_list}
+use Rattle.sv_check.specs.ChainSteps.{met_in, met_of_list, numbers_of, with_each}
+use Rattle.sv_check.proofs.ChainMet.{gathers_first, gathers_none, gathers_on, gathers_end}
 use Rattle.sv_check.proofs.ChainWalk.{follows_same, leads_first, leads_bad, leads_none, leads_unread, leads_on, leads_end}
 use Rattle.sv_check.proofs.chain.follow_chain.Goals as goal
 
 pub loop-turn-init : goal.loop-turn-init
-loop-turn-init g c = record { content = refl; faults = omega arith; blocks = c.requires.blocks; leads = leads_first _ _ _ _ }
+loop-turn-init g c = record { content = refl; faults = omega arith; blocks = c.requires.blocks; leads = leads_first _ _ _ _; gathers = gathers_first _ _ _ _ }
 
 pub returns-then-not-take_list-clause-broken : goal.returns-then-not-take_list-clause-broken
 returns-then-not-take_list-clause-broken g c =
@@ -20,6 +21,13 @@ returns-then-link-eq0-clause-broken g c =
     (ap met_of_list c.deref.ensures.value) (c.if-not-take_list.ensures.follows (g.D.Disk.content c.args.disk.now)) in
     let link : c.link_of-link.result ≡ slice_index c.loop-turn.list.items 0 = c.link_of-link.ensures ∙ ap (λ (l : List ℕ). slice_index l 0) c.deref-in-loop-turn.ensures.value in
     leads_none _ (g.D.Disk.content c.args.disk.now) _ (met_in c.loop-turn.met.met.items) (met_in c.take_list.new.self.met.items) _ c.loop-turn.turn c.loop-turn.list.items c.loop-turn-test.true c.loop-turn.invariant.leads c.take_list.new.self.bad follows (sym link ∙ c.if-link-eq0.true)
+
+pub returns-then-link-eq0-clause-met : goal.returns-then-link-eq0-clause-met
+returns-then-link-eq0-clause-met g c =
+    let link : c.link_of-link.result ≡ slice_index c.loop-turn.list.items 0 = c.link_of-link.ensures ∙ ap (λ (l : List ℕ). slice_index l 0) c.deref-in-loop-turn.ensures.value in
+    λ _. gathers_none _ (g.D.Disk.content c.args.disk.now) _ (met_in c.loop-turn.met.met.items) (met_in c.take_list.new.self.met.items) _ c.loop-turn.turn c.loop-turn.list.items c.loop-turn-test.true c.loop-turn.invariant.gathers
+    (subst (λ (l : List ℕ). (b : ℕ) → met_in c.take_list.new.self.met.items b ≡ with_each (met_in c.loop-turn.met.met.items) (numbers_of (met_of_list l)) b) c.deref.ensures.value c.if-not-take_list.ensures.met)
+    (sym link ∙ c.if-link-eq0.true)
 
 pub returns-then-not-reads_list-clause-broken : goal.returns-then-not-reads_list-clause-broken
 returns-then-not-reads_list-clause-broken g c =
@@ -45,7 +53,13 @@ loop-turn-preserved g c =
       blocks = c.take_list.ensures.blocks;
       leads = leads_on _ (g.D.Disk.content c.args.disk.now) _ (met_in c.loop-turn.met.met.items) (met_in c.take_list.new.self.met.items) _ c.loop-turn.turn c.loop-turn.list.items c.loop-turn-test.true c.loop-turn.invariant.leads c.take_list.new.self.bad follows c.link_of-link.result _ (λ e. c.if-link-eq0.false (link ∙ e)) link
           (sym (c.if-not-reads_list.ensures.result ∙ ap (λ (b : List ℕ). reads_list b) bytes)) (c.in_ok-list.ensures.list ∙ ap (λ (b : List ℕ). list_in b) bytes_again);
+      gathers = gathers_on _ (g.D.Disk.content c.args.disk.now) _ (met_in c.loop-turn.met.met.items) (met_in c.take_list.new.self.met.items) _ c.loop-turn.turn c.loop-turn.list.items c.loop-turn-test.true c.loop-turn.invariant.gathers
+          (subst (λ (l : List ℕ). (b : ℕ) → met_in c.take_list.new.self.met.items b ≡ with_each (met_in c.loop-turn.met.met.items) (numbers_of (met_of_list l)) b) c.deref.ensures.value c.if-not-take_list.ensures.met)
+          c.link_of-link.result _ (λ e. c.if-link-eq0.false (link ∙ e)) link (c.in_ok-list.ensures.list ∙ ap (λ (b : List ℕ). list_in b) bytes_again);
     }
 
 pub returns-clause-broken : goal.returns-clause-broken
 returns-clause-broken g c = leads_end _ _ _ _ _ c.loop-turn.turn _ c.loop-turn-test.false c.loop-turn.invariant.leads
+
+pub returns-clause-met : goal.returns-clause-met
+returns-clause-met g c = λ _. gathers_end _ _ _ _ _ c.loop-turn.turn _ c.loop-turn-test.false c.loop-turn.invariant.gathers
