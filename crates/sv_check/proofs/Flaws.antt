@@ -6,11 +6,13 @@ use Rattle.sv_check.specs.declared.met.Met.{Met}
 use Rattle.sv_check.specs.declared.fault.CheckFault.{CheckFault}
 use Rattle.sv_check.specs.declared.fault.CheckFault.TheVariants.{Refused, Fault, NoMemory}
 use Rattle.sv_check.specs.Chain.{chain_flaw, lost_flaw}
+use Rattle.sv_check.specs.Directories.{root_flaw}
 use Rattle.sv_check.specs.Fault.{Says}
+use Rattle.sv_check.specs.InodeCache.{cache_flaw}
 use Rattle.sv_check.specs.InodeList.{kind_flaw, size_flaw}
 use Rattle.sv_check.specs.PastSize.{past_size_flaw, tail_flaw}
 use Rattle.sv_check.specs.Sizes.{IsSized}
-use Rattle.sv_check.specs.Sound.{Flaw, IsWalked, first_failing, flaws_from_4, flaw_from_4}
+use Rattle.sv_check.specs.Sound.{Flaw, IsChained, IsWalked, first_failing, flaws_from_4, flaw_from_4}
 use Rattle.sv_check.specs.Walk.{BadFlaw, is_data_block, first_bad, nothing_met, walk, range_flaw, twice_flaw}
 
 holds : (n : ℕ) (flaw : Option ℕ) (rest : List (Option ℕ)) → flaw ≡ None → first_failing n (flaw ∷ rest) ≡ first_failing (n + 1) rest
@@ -64,6 +66,16 @@ module _ (image : List ℕ) (w : IsWalked image) where
 
   pub fails_11 : (p : ℕ) → chain_flaw (geometry_of image) image ≡ None → lost_flaw (geometry_of image) image ≡ Some p → Flaw image 11 p
   fails_11 p chain here = inr (record { sized = w.sized; fails = from_10 ∙ holds 10 _ _ chain ∙ fails 11 p _ _ here })
+
+module _ (image : List ℕ) (c : IsChained image) where
+  from_12 : flaw_from_4 image ≡ first_failing 12 (drop 2 (flaws_from_10 (geometry_of image) image))
+  from_12 = from_10 image c.walked ∙ holds 10 _ _ c.chain ∙ holds 11 _ _ c.lost
+
+  pub fails_12 : (p : ℕ) → cache_flaw (geometry_of image) image ≡ Some p → Flaw image 12 p
+  fails_12 p here = inr (record { sized = c.walked.sized; fails = from_12 ∙ fails 12 p _ _ here })
+
+  pub fails_13 : (p : ℕ) → cache_flaw (geometry_of image) image ≡ None → root_flaw (geometry_of image) image ≡ Some p → Flaw image 13 p
+  fails_13 p cache here = inr (record { sized = c.walked.sized; fails = from_12 ∙ holds 12 _ _ cache ∙ fails 13 p _ _ here })
 
 module _ (g : Geometry) (image : List ℕ) where
   -- there is no bad number

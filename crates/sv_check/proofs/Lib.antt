@@ -1,4 +1,5 @@
 mod AddressSteps
+mod CacheSteps
 mod ChainMet
 mod ChainStart
 mod ChainWalk

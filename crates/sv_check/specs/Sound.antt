@@ -71,6 +71,12 @@ pub record IsChained (image : List ℕ) : Type 0 where
   pub chain : chain_flaw (geometry_of image) image ≡ None
   pub lost : lost_flaw (geometry_of image) image ≡ None
 
+-- the first thirteen conditions hold: those eleven, the cache of free inodes, and that the root is a directory
+pub record IsRooted (image : List ℕ) : Type 0 where
+  pub chained : IsChained image
+  pub cache : cache_flaw (geometry_of image) image ≡ None
+  pub root : root_flaw (geometry_of image) image ≡ None
+
 -- ---- the tree of a sound image
 
 abbrev pub is_page : Reached → Bool

@@ -1,29 +1,31 @@
 // The check of an image, condition by condition.
 ghost use Rattle.std.specs.Prelude.{◌≡◌, ◌≤◌, ⊤, ℕ, None, length, slice_index, IfOk, IfErr, OnOk};
 ghost use Rattle.sv_dev.specs.Causes.{Rose};
-ghost use Rattle.sv_form.specs.Image.{geometry_of, superblock_of};
+ghost use Rattle.sv_form.specs.Image.{geometry_of, inode_of, superblock_of};
 ghost use Rattle.sv_form.specs.Superblock.{IsSuper};
 ghost use Rattle.sv_check.specs.Chain.{chain_flaw, walked};
 ghost use Rattle.sv_check.specs.Fault.{Says};
-ghost use Rattle.sv_check.specs.InodeList.{kind_flaw, size_flaw, used_flags};
+ghost use Rattle.sv_check.specs.InodeList.{is_directory, kind_flaw, size_flaw, used_flags};
 ghost use Rattle.sv_check.specs.PastSize.{past_size_flaw, tail_flaw};
 ghost use Rattle.sv_check.specs.Progress.{met_by};
 ghost use Rattle.sv_check.specs.Sizes.{IsSized};
-ghost use Rattle.sv_check.specs.Sound.{Flaw, IsChained, IsWalked};
+ghost use Rattle.sv_check.specs.Sound.{Flaw, IsChained, IsRooted, IsWalked};
 ghost use Rattle.sv_check.specs.Walk.{BadFlaw, first_bad, is_among, nothing_met, walk};
 
 use crate::{
-    BlockWalk, CheckFault, Met, MetBlocks, follow_chain, read_inode_list, read_sizes, walk_blocks,
+    BlockWalk, CheckFault, InodeList, Met, MetBlocks, first_uncacheable, follow_chain,
+    read_inode_list, read_sizes, walk_blocks,
 };
 use std::alloc::Global;
 use sv_dev::Disk;
 use sv_form::{Geometry, Super};
 
-/// Decides the first eleven conditions of a sound image: the sizes, each inode, the walk over their blocks, the chain of
-/// free blocks, and that no data block is lost. It gives the superblock where they hold, and says nothing of the others. Each block of the inode list is
+/// Decides the first thirteen conditions of a sound image: the sizes, each inode, the walk over their blocks, the chain of
+/// free blocks, that no data block is lost, the cache of free inodes, and that the root is a directory. It gives the
+/// superblock where they hold, and says nothing of entries and links. Each block of the inode list is
 /// read twice, each indirect block, each last page and each link block once, and no other block but the superblock's.
-pub fn check_chain<D: Disk>(alloc: Global, disk: &mut D) -> Result<Super, CheckFault>
-    ensures chained { IfOk result (λ s. IsChained (D.content disk.old)) }
+pub fn check_all_but_names<D: Disk>(alloc: Global, disk: &mut D) -> Result<Super, CheckFault>
+    ensures rooted { IfOk result (λ s. IsRooted (D.content disk.old)) }
     ensures head { IfOk result (λ s. IsSuper (superblock_of (D.content disk.old)) s) }
     ensures err { IfErr result (Says (Flaw (D.content disk.old)) (Rose (D.faults disk.old) (D.faults disk.new)) ⊤) }
     ensures content { D.content disk.new ≡ D.content disk.old }
@@ -32,25 +34,26 @@ pub fn check_chain<D: Disk>(alloc: Global, disk: &mut D) -> Result<Super, CheckF
     let head = read_sizes(disk)?;
     let sizes = head.geometry();
     let mut block = vec![in alloc; 0; sizes.block_size as usize]?;
-    let _used = check_inodes(alloc, disk, &sizes, &mut block)?;
+    let list = check_inodes(alloc, disk, &sizes, &mut block)?;
     let walk = check_blocks(alloc, disk, &sizes, &mut block)?;
-    check_free_blocks(alloc, disk, &sizes, &head, &walk.walk.owner)?;
+    check_free(alloc, disk, &sizes, &head, &list, &walk.walk.owner)?;
     Ok(head)
 }
 
-// The conditions 4 and 5, where the first three hold: whether each inode is used. The slice has a block's length.
+// The conditions 4 and 5, where the first three hold: what the inode list shows. The slice has a block's length.
 fn check_inodes<D: Disk>(
     alloc: Global,
     disk: &mut D,
     sizes: &Geometry,
     block: &mut [u8],
-) -> Result<Vec<bool>, CheckFault>
+) -> Result<InodeList, CheckFault>
     requires sized { IsSized (D.content disk.old) }
     requires sizes { sizes.now ≡ geometry_of (D.content disk.old) }
     requires block { length block.old ≡ sizes.now.block_size }
-    ensures used { IfOk result (λ u. u.items ≡ used_flags sizes.now (D.content disk.old)) }
-    ensures kind { IfOk result (λ u. kind_flaw (geometry_of (D.content disk.old)) (D.content disk.old) ≡ None) }
-    ensures size { IfOk result (λ u. size_flaw (geometry_of (D.content disk.old)) (D.content disk.old) ≡ None) }
+    ensures used { IfOk result (λ l. l.used.items ≡ used_flags sizes.now (D.content disk.old)) }
+    ensures root { IfOk result (λ l. l.root ≡ is_directory (inode_of sizes.now (D.content disk.old) 2)) }
+    ensures kind { IfOk result (λ l. kind_flaw (geometry_of (D.content disk.old)) (D.content disk.old) ≡ None) }
+    ensures size { IfOk result (λ l. size_flaw (geometry_of (D.content disk.old)) (D.content disk.old) ≡ None) }
     ensures err { IfErr result (Says (Flaw (D.content disk.old)) (Rose (D.faults disk.old) (D.faults disk.new)) ⊤) }
     ensures content { D.content disk.new ≡ D.content disk.old }
     ensures faults { D.faults disk.old ≤ D.faults disk.new }
@@ -71,7 +74,7 @@ fn check_inodes<D: Disk>(
             place: u32::from(n),
         });
     }
-    Ok(list.used)
+    Ok(list)
 }
 
 // The conditions 6 to 9, where those before hold: what the walk found. The slice has a block's length.
@@ -166,6 +169,47 @@ fn check_free_blocks<D: Disk>(
         return Err(CheckFault::Refused {
             number: 11,
             place: b,
+        });
+    }
+    Ok(())
+}
+
+// The conditions 10 to 13, where those before hold, from what the inode list shows and the owner of each block.
+fn check_free<D: Disk>(
+    alloc: Global,
+    disk: &mut D,
+    sizes: &Geometry,
+    head: &Super,
+    list: &InodeList,
+    owners: &[u16],
+) -> Result<(), CheckFault>
+    requires walked { IsWalked (D.content disk.old) }
+    requires sizes { sizes.now ≡ geometry_of (D.content disk.old) }
+    requires head { IsSuper (superblock_of (D.content disk.old)) head.now }
+    requires used { list.now.used.items ≡ used_flags sizes.now (D.content disk.old) }
+    requires root { list.now.root ≡ is_directory (inode_of sizes.now (D.content disk.old) 2) }
+    requires blocks { length owners.now ≡ sizes.now.blocks }
+    requires owners { (b : ℕ) → met_by (slice_index owners.now) b ≡ is_among (walked sizes.now (D.content disk.old)) b }
+    ensures rooted { OnOk result (IsRooted (D.content disk.old)) }
+    ensures err { IfErr result (Says (Flaw (D.content disk.old)) (Rose (D.faults disk.old) (D.faults disk.new)) ⊤) }
+    ensures content { D.content disk.new ≡ D.content disk.old }
+    ensures faults { D.faults disk.old ≤ D.faults disk.new }
+{
+    match check_free_blocks(alloc, disk, sizes, head, owners) {
+        Ok(()) => {}
+        Err(fault) => return Err(fault),
+    }
+    let bad = first_uncacheable(alloc, sizes, &list.used, head.inodes.as_slice())?;
+    if let Some(n) = bad {
+        return Err(CheckFault::Refused {
+            number: 12,
+            place: u32::from(n),
+        });
+    }
+    if !list.root {
+        return Err(CheckFault::Refused {
+            number: 13,
+            place: 2,
         });
     }
     Ok(())

@@ -1,11 +1,11 @@
 // Conditions 4 and 5 of a sound image: one pass over the inode list.
-ghost use Rattle.std.specs.Prelude.{◌≡◌, ◌≢◌, ◌≤◌, ◌*◌, ◌-◌, ◌++◌, ◌∷◌, [], ⊤, not, length, if◌then◌else◌, IfOk, IfErr, OnOk};
+ghost use Rattle.std.specs.Prelude.{◌≡◌, ◌≢◌, ◌≤◌, ◌*◌, ◌-◌, ◌++◌, ◌∷◌, ◌==◌, [], ⊤, not, length, if◌then◌else◌, IfOk, IfErr, OnOk};
 ghost use Rattle.std.specs.Option.{option_or};
 ghost use Rattle.sv_dev.specs.Causes.{HasCause, Rose};
 ghost use Rattle.sv_form.specs.Geometry.{IsGeometry, IsNumber, inode_place};
-ghost use Rattle.sv_form.specs.Image.{block_of};
+ghost use Rattle.sv_form.specs.Image.{block_of, inode_of};
 ghost use Rattle.sv_check.specs.Fault.{Says};
-ghost use Rattle.sv_check.specs.InodeList.{is_free, is_misread, is_missized, kind_bits, kind_flaw, size_flaw, used_flags};
+ghost use Rattle.sv_check.specs.InodeList.{is_directory, is_free, is_misread, is_missized, kind_bits, kind_flaw, size_flaw, used_flags};
 
 use crate::{CheckFault, read_block};
 use std::alloc::Global;
@@ -17,12 +17,17 @@ const REGULAR: u16 = 8;
 
 const DIRECTORY: u16 = 4;
 
-/// What the inode list shows: whether each inode is used, and the first inodes that fail the conditions Kind and Size.
+// The inode of the root.
+const ROOT: u16 = 2;
+
+/// What the inode list shows: whether each inode is used, the first inodes that fail the conditions Kind and Size, and
+/// whether inode 2, the root, is a directory.
 #[derive(Debug, Drop)]
 pub struct InodeList {
     pub used: Vec<bool>,
     pub kind: Option<u16>,
     pub size: Option<u16>,
+    pub root: bool,
 }
 
 /// Looks at each inode once, and reads each block of the inode list once, into a slice of a block's length.
@@ -38,6 +43,7 @@ pub fn read_inode_list<D: Disk>(
     ensures used { IfOk result (λ l. l.used.items ≡ used_flags sizes.now (D.content disk.old)) }
     ensures kind { IfOk result (λ l. l.kind ≡ kind_flaw sizes.now (D.content disk.old)) }
     ensures size { IfOk result (λ l. l.size ≡ size_flaw sizes.now (D.content disk.old)) }
+    ensures root { IfOk result (λ l. l.root ≡ is_directory (inode_of sizes.now (D.content disk.old) 2)) }
     ensures err { IfErr result (Says (λ _ _. ⊥) (Rose (D.faults disk.old) (D.faults disk.new)) ⊤) }
     ensures content { D.content disk.new ≡ D.content disk.old }
     ensures faults { D.faults disk.old ≤ D.faults disk.new }
@@ -46,6 +52,7 @@ pub fn read_inode_list<D: Disk>(
         used: Vec::new(alloc),
         kind: None,
         size: None,
+        root: false,
     };
     for before in 0..sizes.inode_count() {
         let n = (before + 1) as u16;
@@ -87,12 +94,25 @@ impl InodeList {
         ensures used { OnOk result (self.new.used.items ≡ self.old.used.items ++ not (is_free inode.now) ∷ []) }
         ensures kind { OnOk result (self.new.kind ≡ option_or self.old.kind (if is_misread n inode.now then Some n else None)) }
         ensures size { OnOk result (self.new.size ≡ option_or self.old.size (if is_missized sizes.now inode.now then Some n else None)) }
+        ensures root { OnOk result (self.new.root ≡ (if n == 2 then is_directory inode.now else self.old.root)) }
     {
         self.used.push(!is_free(inode))?;
         self.kind = self.kind.or(is_misread(n, inode).then_some(n));
         self.size = self.size.or(is_missized(sizes, inode).then_some(n));
+        self.root = is_root_directory(self.root, n, inode);
         Ok(())
     }
+}
+
+// Whether the root is a directory, from the bytes of inode n, and from what the inodes before it showed.
+fn is_root_directory(before: bool, n: u16, inode: &[u8]) -> bool
+    requires { length inode.now ≡ 64 }
+    ensures { result ≡ (if n == 2 then is_directory inode.now else before) }
+{
+    if n != ROOT {
+        return before;
+    }
+    kind_bits(inode) == DIRECTORY
 }
 
 /// Whether these are the bytes of a free inode.

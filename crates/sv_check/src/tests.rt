@@ -1,7 +1,7 @@
-// Worked rows: small sound images, and one change of them for each of the first eleven conditions.
+// Worked rows: small sound images, and one change of them for each of the first thirteen conditions.
 ghost use Rattle.std.specs.Prelude.{◌+◌, ◌<◌, ◌^◌, length};
 
-use crate::{CheckFault, MetBlocks, check_chain, follow_chain};
+use crate::{CheckFault, MetBlocks, check_all_but_names, follow_chain};
 use std::alloc::{AllocError, Global};
 use std::process::Abort;
 use std::test::Fail as Failure;
@@ -46,7 +46,7 @@ fn first_failing(alloc: Global, at: usize, bytes: &[u8]) -> Result<(u8, u32), Fa
 }
 
 #[test]
-fn eleven_conditions(rt: HostRuntime) -> Result<(), Failure> {
+fn thirteen_conditions(rt: HostRuntime) -> Result<(), Failure> {
     let alloc = rt.alloc();
     let file = b"\xa4\x81\x01\0\0\0\0\0\x06\0\0\0\x04";
     assert_eq!(rt; first_failing(alloc, 0, b"")?, (0, 0));
@@ -64,6 +64,31 @@ fn eleven_conditions(rt: HostRuntime) -> Result<(), Failure> {
         first_failing(alloc, 524, b"\x02\0\0\0\0\0\0\0\x03")?,
         (10, 3)
     );
+    Ok(())
+}
+
+// The same with this count of the inode cache and these numbers in it.
+fn first_with_cache(alloc: Global, count: &[u8], numbers: &[u8]) -> Result<(u8, u32), Failure>
+    requires count { length count.now < 2 ^ 16 }
+    requires numbers { length numbers.now < 2 ^ 16 }
+{
+    let mut image = small_image(alloc)?;
+    put(&mut image, 526, count);
+    put(&mut image, 728, numbers);
+    answer(alloc, &image)
+}
+
+// No number but that of a free inode, once; inode 16 is the last.
+#[test]
+fn inode_caches(rt: HostRuntime) -> Result<(), Failure> {
+    let alloc = rt.alloc();
+    assert_eq!(rt; first_with_cache(alloc, b"\x02", b"\x10\0\x04")?, (0, 0));
+    assert_eq!(rt; first_with_cache(alloc, b"\x01", b"\0")?, (12, 0));
+    assert_eq!(rt; first_with_cache(alloc, b"\x01", b"\x01")?, (12, 1));
+    assert_eq!(rt; first_with_cache(alloc, b"\x02", b"\x05\0\x02")?, (12, 2));
+    assert_eq!(rt; first_with_cache(alloc, b"\x02", b"\x05\0\x05")?, (12, 5));
+    assert_eq!(rt; first_with_cache(alloc, b"\x01", b"\x11")?, (12, 17));
+    assert_eq!(rt; first_with_cache(alloc, b"\x01", b"\x10\x01")?, (12, 272));
     Ok(())
 }
 
@@ -90,7 +115,7 @@ fn answer(alloc: Global, image: &[u8]) -> Result<(u8, u32), Failure> {
     let mut copy = Vec::new(alloc);
     copy.extend_from_slice(image)?;
     let mut disk = MemDisk::new(copy, Vec::new(alloc));
-    match check_chain(alloc, &mut disk) {
+    match check_all_but_names(alloc, &mut disk) {
         Ok(_) => Ok((0, 0)),
         Err(CheckFault::Refused { number, place }) => Ok((number, place)),
         Err(_) => Err("no answer")?,
@@ -109,12 +134,17 @@ fn reads_and_faults(rt: HostRuntime) -> Result<(), Failure> {
         Access::Read(4_096),
     ];
     let mut disk = MemDisk::new(small_image(alloc)?, Vec::new(alloc));
-    assert!(rt; check_chain(alloc, &mut disk).is_ok());
+    assert!(rt; check_all_but_names(alloc, &mut disk).is_ok());
     assert!(rt; disk.log() == log.as_slice());
     for k in 1..=5 {
         let fails = vec![in alloc; Fail::Read(k)]?;
         let mut disk = MemDisk::new(small_image(alloc)?, fails);
-        assert!(rt; matches!(check_chain(alloc, &mut disk), Err(CheckFault::Fault)));
+        assert!(rt;
+            matches!(
+                check_all_but_names(alloc, &mut disk),
+                Err(CheckFault::Fault)
+            )
+        );
     }
     Ok(())
 }
@@ -187,12 +217,17 @@ fn reads_of_the_chain(rt: HostRuntime) -> Result<(), Failure> {
         Access::Read(14_336),
     ];
     let mut disk = MemDisk::new(made_image(alloc)?, Vec::new(alloc));
-    assert!(rt; check_chain(alloc, &mut disk).is_ok());
+    assert!(rt; check_all_but_names(alloc, &mut disk).is_ok());
     assert!(rt; disk.log() == log.as_slice());
     for k in 1..=7 {
         let fails = vec![in alloc; Fail::Read(k)]?;
         let mut disk = MemDisk::new(made_image(alloc)?, fails);
-        assert!(rt; matches!(check_chain(alloc, &mut disk), Err(CheckFault::Fault)));
+        assert!(rt;
+            matches!(
+                check_all_but_names(alloc, &mut disk),
+                Err(CheckFault::Fault)
+            )
+        );
     }
     Ok(())
 }

@@ -2,7 +2,7 @@ use Rattle.std.proofs.Common.{◌≡◌, ◌∙◌, ◌+◌, ℕ, List, refl, ap
 use Rattle.sv_form.specs.declared.place.Place.{Place}
 use Rattle.sv_form.specs.Geometry.{inode_place}
 use Rattle.sv_form.specs.Image.{block_of}
-use Rattle.sv_check.proofs.InodeSteps.{listed_more, listed-used, listed-kind, listed-size}
+use Rattle.sv_check.proofs.InodeSteps.{listed_more, listed-used, listed-kind, listed-size, listed-root}
 use Rattle.sv_check.proofs.LineReads.{line_of-is}
 use Rattle.sv_check.proofs.inodes.read_inode_list.Goals as goal
 
@@ -15,6 +15,9 @@ returns-clause-kind g c = listed-kind _ _ c.loop-before.before _ c.loop-before.i
 pub returns-clause-size : goal.returns-clause-size
 returns-clause-size g c = listed-size _ _ c.loop-before.before _ c.loop-before.invariant.listed (omega (arith, c.inode_count-before-end.ensures))
 
+pub returns-clause-root : goal.returns-clause-root
+returns-clause-root g c = listed-root _ _ c.loop-before.before _ c.loop-before.invariant.listed (omega (arith, c.inode_count-before-end.ensures)) c.requires.sizes
+
 pub loop-before-preserved : goal.loop-before-preserved
 loop-before-preserved g c =
     let at : Place = inode_place c.args.sizes.now (c.loop-before.before + 1) in
@@ -26,5 +29,5 @@ loop-before-preserved g c =
       size = c.turn_to_inode.auto.block ∙ c.loop-before.invariant.size;
       block = λ _. block;
       listed = listed_more _ _ c.loop-before.before (c.loop-before.before + 1) _ _ _ refl (line_of-is _ _ at at refl _ block c.from-at.result (c.from-at.ensures ∙ ap (λ (p : Place). p.line) c.inode_place.ensures))
-          c.loop-before.invariant.listed c.in_ok-add.ensures.used c.in_ok-add.ensures.kind c.in_ok-add.ensures.size;
+          c.loop-before.invariant.listed c.in_ok-add.ensures.used c.in_ok-add.ensures.kind c.in_ok-add.ensures.size c.in_ok-add.ensures.root;
     }
