@@ -12,27 +12,9 @@ use Rattle.sv_check.specs.ChainSteps.{met_of_list, numbers_of, with_each}
 use Rattle.sv_check.specs.Walk.{is_among, with_met}
 use Rattle.sv_check.proofs.ChainWalk.{drop-at, list-none, list-some, behind, behind-none, behind-some, chain-turn, chain-end}
 use Rattle.sv_check.proofs.WalkSteps.{range_from}
-
-or_false_after : (b : Bool) → (b || false) ≡ b
-or_false_after true = refl
-or_false_after false = refl
-
-or_or : (a b c : Bool) → (a || (b || c)) ≡ ((a || b) || c)
-or_or true b c = refl
-or_or false b c = refl
+use Rattle.sv_check.proofs.WholeWalk.{met_two, or_false_after, or_or}
 
 -- ---- the numbers of one list
-
--- one number more
-met_two : (x b : ℕ) (p rest : Bool) → (((b == x) || p) || rest) ≡ (p || ((x == b) || rest))
-met_two x b p rest = by_test x b p rest (b == x) (x == b) refl refl where
-  by_test : (x b : ℕ) (p rest t u : Bool) → (b == x) ≡ t → (x == b) ≡ u → ((t || p) || rest) ≡ (p || (u || rest))
-  by_test x b true rest true u e f = refl
-  by_test x b true rest false u e f = refl
-  by_test x b false rest true true e f = refl
-  by_test x b false rest false false e f = refl
-  by_test x b false rest true false e f = grind (arith, e, f)
-  by_test x b false rest false true e f = grind (arith, e, f)
 
 module _ (before now : ℕ → Bool) (numbers : List ℕ) (i : ℕ) where
   pub each_one : (next : ℕ → Bool) → i < length numbers → next ≡ with_met now (slice_index numbers i)
@@ -64,7 +46,7 @@ pub record Gathers (g : Geometry) (image : List ℕ) (before : ℕ → Bool) (wh
   pub same : (b : ℕ) → with_each now (numbers_of (chain_from g image (g.blocks - k) numbers)) b ≡ with_each before (numbers_of whole) b
 
 with_both : (met : ℕ → Bool) (xs ys : List ℕ) (b : ℕ) → with_each met (xs ++ ys) b ≡ with_each (with_each met xs) ys b
-with_both met xs ys b = ap (λ (t : Bool). met b || t) (list_any-append (λ n. n == b) xs ys) ∙ or_or (met b) (is_among xs b) (is_among ys b)
+with_both met xs ys b = ap (λ (t : Bool). met b || t) (list_any-append (λ n. n == b) xs ys) ∙ sym (or_or (met b) (is_among xs b) (is_among ys b))
 
 module _ (g : Geometry) (image : List ℕ) (before now next : ℕ → Bool) (whole : List Chained) (k : ℕ) (numbers : List ℕ) (below : k < g.blocks) (was : Gathers g image before whole now k numbers)
     (met : (b : ℕ) → next b ≡ with_each now (numbers_of (met_of_list numbers)) b) where

@@ -30,13 +30,24 @@ nothing-owned n owner is = fun_ext (λ x. sym (ap (λ (y : ℕ). not (y == 0)) (
 or_false : (b : Bool) → (false || b) ≡ b
 or_false b = refl
 
-or_false_after : (b : Bool) → (b || false) ≡ b
+pub or_false_after : (b : Bool) → (b || false) ≡ b
 or_false_after true = refl
 or_false_after false = refl
 
-or_or : (a b c : Bool) → ((a || b) || c) ≡ (a || (b || c))
+pub or_or : (a b c : Bool) → ((a || b) || c) ≡ (a || (b || c))
 or_or true b c = refl
 or_or false b c = refl
+
+-- one number more that was met
+pub met_two : (x b : ℕ) (p rest : Bool) → (((b == x) || p) || rest) ≡ (p || ((x == b) || rest))
+met_two x b p rest = by_test x b p rest (b == x) (x == b) refl refl where
+  by_test : (x b : ℕ) (p rest t u : Bool) → (b == x) ≡ t → (x == b) ≡ u → ((t || p) || rest) ≡ (p || (u || rest))
+  by_test x b true rest true u e f = refl
+  by_test x b true rest false u e f = refl
+  by_test x b false rest true true e f = refl
+  by_test x b false rest false false e f = refl
+  by_test x b false rest true false e f = grind (arith, e, f)
+  by_test x b false rest false true e f = grind (arith, e, f)
 
 or_none : (o : Option ℕ) → option_or o None ≡ o
 or_none None = refl
@@ -70,17 +81,6 @@ module _ (g : Geometry) (image : List ℕ) where
 
   abbrev pub is_used : ℕ → Bool
   is_used n = not (is_free (inode_of g image n))
-
-  -- what was met so far, and what these blocks add
-  met_two : (x b : ℕ) (p rest : Bool) → (((b == x) || p) || rest) ≡ (p || ((x == b) || rest))
-  met_two x b p rest = by_test x b p rest (b == x) (x == b) refl refl where
-    by_test : (x b : ℕ) (p rest t u : Bool) → (b == x) ≡ t → (x == b) ≡ u → ((t || p) || rest) ≡ (p || (u || rest))
-    by_test x b true rest true u e f = refl
-    by_test x b true rest false u e f = refl
-    by_test x b false rest true true e f = refl
-    by_test x b false rest false false e f = refl
-    by_test x b false rest true false e f = grind (arith, e, f)
-    by_test x b false rest false true e f = grind (arith, e, f)
 
   after-met : (n size : ℕ) (p : Progress) (list : List Reached) (b : ℕ) → n ≢ 0
       → met_by (after g image n size p list).owner b ≡ (met_by p.owner b || is_among (map (λ m. m.block) (met_at n list)) b)

@@ -22,8 +22,8 @@ use sv_form::{Geometry, Super};
 
 /// Decides the first thirteen conditions of a sound image: the sizes, each inode, the walk over their blocks, the chain of
 /// free blocks, that no data block is lost, the cache of free inodes, and that the root is a directory. It gives the
-/// superblock where they hold, and says nothing of entries and links. Each block of the inode list is
-/// read twice, each indirect block, each last page and each link block once, and no other block but the superblock's.
+/// superblock where they hold, and says nothing of entries and links. It reads each block of the inode list twice, each
+/// indirect block, each last page and each link block once, and no other block but the superblock's.
 pub fn check_all_but_names<D: Disk>(alloc: Global, disk: &mut D) -> Result<Super, CheckFault>
     ensures rooted { IfOk result (λ s. IsRooted (D.content disk.old)) }
     ensures head { IfOk result (λ s. IsSuper (superblock_of (D.content disk.old)) s) }

@@ -2,10 +2,10 @@
 //! What the sixteen conditions are stands in specs/Sound.antt and the files that it names.
 //!
 //! - `check_all_but_names` decides the first thirteen conditions: all but those on the entries of directories and the links.
-//! - `first_uncacheable` is the first number of a cache of free inodes that may not stand there.
 //! - `read_sizes` decides the first three: it reads the superblock, or says which fails first, and where.
 //! - `read_inode_list` and `walk_blocks` are its two passes; `Walk` is the walk over the blocks of one inode.
-//! - `follow_chain` follows a chain of free blocks to its first bad number, from the blocks that were met before.
+//! - `follow_chain` follows a chain of free blocks to its first bad number, from the blocks that were met before;
+//!   `first_uncacheable` is the first number of a cache of free inodes that may not stand there.
 //! - `read_block` and `read_inode` read one block, and one inode, of an image of known sizes.
 #![tactic(auto)]
 
