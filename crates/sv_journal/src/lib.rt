@@ -9,6 +9,8 @@
 
 mod journal;
 mod line;
+#[cfg(test)]
+mod tests;
 mod write_fault;
 
 pub use journal::write;
