@@ -1,2 +1,4 @@
+pub mod Digits
+pub mod NumberWords
 pub mod Rows
 pub mod Written

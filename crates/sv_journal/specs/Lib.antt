@@ -1,3 +1,5 @@
 pub mod Allowed
 pub mod Cause
+pub mod Fits
 pub mod Spelling
+pub mod Word

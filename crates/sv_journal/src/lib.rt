@@ -11,6 +11,7 @@ mod journal;
 mod line;
 #[cfg(test)]
 mod tests;
+mod word;
 mod write_fault;
 
 pub use journal::write;

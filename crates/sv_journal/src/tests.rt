@@ -1,6 +1,7 @@
 ghost use Rattle.std.specs.Prelude.{◌≡◌, IfOk, OnOk, All, true, false};
 ghost use Rattle.sv_journal.specs.Allowed.{IsAllowed, is_purge, is_reply_of};
 
+use crate::word::number_of;
 use crate::{WriteFault, write};
 use std::alloc::{AllocError, Global};
 use std::test::Fail;
@@ -206,4 +207,29 @@ fn faults_of_the_sink(rt: HostRuntime) -> Result<(), Fail> {
         assert_eq!(rt; Some(out.written()), WORKED.get(..count));
     }
     Ok(())
+}
+
+// Numbers have no sign and no leading zero, and are at most what is asked.
+#[test]
+fn words_that_are_numbers(rt: HostRuntime) {
+    let rows: [(&[u8], Option<u64>); 10] = [
+        (b"0", Some(0)),
+        (b"65535", Some(65_535)),
+        (b"65536", None),
+        (b"99999999999999999999999999999999999999999", None),
+        (b"", None),
+        (b"00", None),
+        (b"01", None),
+        (b"+1", None),
+        (b"-0", None),
+        (b"1 ", None),
+    ];
+    for (word, wanted) in rows {
+        assert_eq!(rt; number_of(word, 65_535), wanted);
+    }
+    assert_eq!(rt;
+        number_of(b"18446744073709551615", u64::MAX),
+        Some(u64::MAX)
+    );
+    assert_eq!(rt; number_of(b"18446744073709551616", u64::MAX), None);
 }

@@ -1,0 +1,11 @@
+use Rattle.std.proofs.Common.{◌≡◌, ◌≤◌, ◌<◌, ℕ, take, get_or}
+use Rattle.std.specs.Char.{digit_value}
+use Rattle.std.specs.Str.Parse.{digits_value}
+use Rattle.sv_journal.proofs.word.value_of.Given as goal
+
+abbrev pub invariant-loop-byte : goal.invariant-loop-byte
+invariant-loop-byte l = record {
+  digits : (k : ℕ) → k < l.byte-index → digit_value (get_or l.word k 0) < 10;
+  value : l.value ≡ digits_value 10 (take l.byte-index l.word);
+  most : l.value ≤ l.most;
+}
