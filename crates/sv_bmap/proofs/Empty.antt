@@ -1,14 +1,14 @@
 -- A file without pages.
-use Rattle.std.proofs.Common.{◌≡◌, ◌≢◌, ◌≤◌, ◌<◌, ◌*◌, ℕ, zero, suc, List, [], ◌∷◌, get_or, ap, refl, sym, ◌∙◌, subst, arith}
+use Rattle.std.proofs.Common.{◌≡◌, ◌≢◌, ◌≤◌, ◌*◌, ℕ, zero, suc, List, [], ◌∷◌, get_or, ap, refl, sym, ◌∙◌, arith}
 use Rattle.sv_form.specs.Geometry.{IsGeometry}
-use Rattle.sv_form.specs.PagePath.{IsPage, block_numbers, greatest_size}
+use Rattle.sv_form.specs.PagePath.{IsPage, block_numbers}
 use Rattle.sv_form.specs.declared.geometry.Geometry.{Geometry}
 use Rattle.sv_form.proofs.PageLemmas.{greatest_size_is}
 use Rattle.sv_store.specs.Held.{Held, Origin, HoldsBlock}
 use Rattle.sv_bmap.specs.Tree.{down, child, block_at, IsSpot, IsTree}
 use Rattle.sv_bmap.proofs.Paths.{child-hole}
 
-down-hole : (h : Held) (b : ℕ) (ks : List ℕ) → b ≡ 0 → down h b ks ≡ 0
+pub down-hole : (h : Held) (b : ℕ) (ks : List ℕ) → b ≡ 0 → down h b ks ≡ 0
 down-hole h b [] e = e
 down-hole h b (k ∷ ks) e = down-hole h (child h b k) ks (child-hole h b k e)
 

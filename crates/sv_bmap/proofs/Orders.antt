@@ -1,5 +1,5 @@
 -- Blocks under a block, one place after another.
-use Rattle.std.proofs.Common.{◌≡◌, ◌≢◌, ◌≤◌, ◌<◌, ◌+◌, ◌-◌, ◌++◌, ◌==◌, ℕ, zero, suc, Bool, true, false, cond, List, [], ◌∷◌, length, get_or, ap, refl, sym, ◌∙◌, subst, arith, append_assoc}
+use Rattle.std.proofs.Common.{◌≡◌, ◌≢◌, ◌≤◌, ◌<◌, ◌+◌, ◌-◌, ◌++◌, ◌==◌, ℕ, zero, suc, false, cond, List, [], ◌∷◌, length, get_or, ap, refl, sym, ◌∙◌, subst, arith, append_assoc}
 use Rattle.std.specs.List.{flat_map, range_with_len}
 use Rattle.std.proofs.lemmas.Bool.Decides.{nat_tests}
 use Rattle.std.proofs.lemmas.List.{flat_map_more, append-nil}
@@ -7,7 +7,7 @@ use Rattle.sv_form.proofs.OwnerLemmas.{range_more}
 use Rattle.sv_form.specs.declared.geometry.Geometry.{Geometry}
 use Rattle.sv_form.specs.PagePath.{block_numbers, first_single}
 use Rattle.sv_store.specs.Held.{Held, Origin, HoldsBlock}
-use Rattle.sv_bmap.specs.Tree.{child, down, IsTree}
+use Rattle.sv_bmap.specs.Tree.{child, IsTree}
 use Rattle.sv_bmap.specs.Order.{blocks_below, blocks_of, HeldBelow}
 
 -- one place more

@@ -1,5 +1,5 @@
 -- How many blocks are missing to make pages present.
-use Rattle.std.specs.Prelude.{◌≡◌, ◌==◌, ◌&&◌, ◌-◌, ◌+◌, ℕ, Bool, List, [], ◌∷◌, max, count_by, slice_index}
+use Rattle.std.specs.Prelude.{◌==◌, ◌&&◌, ℕ, Bool, List, [], ◌∷◌, max, count_by, slice_index}
 use Rattle.std.specs.List.{range_with_len, sum_by}
 use Rattle.sv_form.specs.PagePath.{block_numbers, page_of}
 use Rattle.sv_form.specs.declared.geometry.Geometry.{Geometry}

@@ -10,6 +10,8 @@
 mod order;
 mod pages;
 #[cfg(test)]
+mod sample_tests;
+#[cfg(test)]
 mod tests;
 
 pub use order::collect;

@@ -1,10 +1,10 @@
 -- Each place adds what is under it, and the block itself comes last.
-use Rattle.std.proofs.Common.{◌≡◌, ◌<◌, ◌++◌, ℕ, refl, sym, ap, ◌∙◌, arith}
+use Rattle.std.proofs.Common.{◌++◌, refl, sym, ap, ◌∙◌, arith}
 use Rattle.sv_form.specs.PagePath.{block_numbers}
 use Rattle.sv_bmap.specs.Tree.{child}
 use Rattle.sv_bmap.specs.Order.{blocks_below}
-use Rattle.sv_bmap.proofs.Orders.{added, none-added, nothing-added, all-added, page-below, held-top, held-child, below-after, blocks-after}
-use Rattle.sv_bmap.proofs.Paths.{child-after, index-in}
+use Rattle.sv_bmap.proofs.Orders.{added, none-added, nothing-added, all-added, page-below, held-top, below-after}
+use Rattle.sv_bmap.proofs.Paths.{child-after}
 use Rattle.sv_bmap.proofs.order.add_single.Goals as goal
 
 pub returns-then-b-eq0-clause-blocks : goal.returns-then-b-eq0-clause-blocks

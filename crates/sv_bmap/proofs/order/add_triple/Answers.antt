@@ -1,9 +1,9 @@
 -- Each place adds what is under it, and the block itself comes last.
-use Rattle.std.proofs.Common.{◌≡◌, ◌<◌, ◌++◌, ℕ, refl, sym, ap, ◌∙◌, arith}
+use Rattle.std.proofs.Common.{◌<◌, ◌++◌, refl, ap, ◌∙◌, arith}
 use Rattle.sv_form.specs.PagePath.{block_numbers}
 use Rattle.sv_bmap.specs.Tree.{child}
 use Rattle.sv_bmap.specs.Order.{blocks_below}
-use Rattle.sv_bmap.proofs.Orders.{added, none-added, nothing-added, all-added, page-below, held-top, held-child, below-after, blocks-after}
+use Rattle.sv_bmap.proofs.Orders.{added, none-added, nothing-added, all-added, held-top, held-child, below-after, blocks-after}
 use Rattle.sv_bmap.proofs.Paths.{child-after, index-in}
 use Rattle.sv_bmap.proofs.order.add_triple.Goals as goal
 

@@ -1,7 +1,5 @@
 -- The four parts of the tree, one after another.
-use Rattle.std.proofs.Common.{◌++◌, refl, sym, ap, ◌∙◌, get_or, arith}
-use Rattle.sv_form.specs.PagePath.{block_numbers}
-use Rattle.sv_bmap.specs.Order.{blocks_below}
+use Rattle.std.proofs.Common.{◌++◌, refl, ap, ◌∙◌, get_or, arith}
 use Rattle.sv_bmap.proofs.Orders.{tree-below, below-after, blocks-after, joined}
 use Rattle.sv_bmap.proofs.order.collect.Goals as goal
 

@@ -1,5 +1,5 @@
 -- Each path leads to the block of its page, and the blocks on the way are held.
-use Rattle.std.proofs.Common.{◌≡◌, ℕ, Result, IfOk, get_or, sym, ap, ◌∙◌, subst, arith}
+use Rattle.std.proofs.Common.{◌≡◌, Result, IfOk, get_or, sym, ap, ◌∙◌, subst, arith}
 use Rattle.sv_form.specs.declared.page_path.PagePath.TheVariants.{Direct, Single, Double, Triple}
 use Rattle.sv_bmap.specs.Tree.{child}
 use Rattle.sv_bmap.proofs.Paths.{index-in, page-block-is, top-held, one-held, two-held, three-along}

@@ -1,5 +1,5 @@
 -- The number that is read is the number of a held line.
-use Rattle.std.proofs.Common.{◌≡◌, ◌*◌, ◌/◌, IsSome, sym, ap, ◌∙◌, arith}
+use Rattle.std.proofs.Common.{◌*◌, ◌/◌, IsSome, sym, ap, ◌∙◌, arith}
 use Rattle.sv_form.specs.Number.{number32}
 use Rattle.sv_store.specs.Held.{Lent, without}
 use Rattle.sv_store.proofs.Holding.{CanReturn-got, without-with}

@@ -1,5 +1,5 @@
 -- The blocks on the way are held, and each missing one is counted at its first page.
-use Rattle.std.proofs.Common.{◌≡◌, ℕ, get_or, sym, ap, ◌∙◌, arith}
+use Rattle.std.proofs.Common.{get_or, ap, ◌∙◌, arith}
 use Rattle.sv_bmap.specs.Tree.{child}
 use Rattle.sv_bmap.proofs.Paths.{index-in, top-held, one-held, two-held, one-along, two-along, three-along}
 use Rattle.sv_bmap.proofs.Needs.{plus, need-direct, need-single, need-double, need-triple}

@@ -1,6 +1,5 @@
 -- The third block is held before and after the reads above it.
-use Rattle.std.proofs.Common.{ap, ◌∙◌}
-use Rattle.sv_bmap.specs.Tree.{child}
+use Rattle.std.proofs.Common.{◌∙◌}
 use Rattle.sv_bmap.proofs.Paths.{held-after, child-after}
 use Rattle.sv_bmap.proofs.pages.three_below.Goals as goal
 
