@@ -1,5 +1,7 @@
 pub mod Empty
+pub mod Hang
 pub mod Needs
 pub mod Orders
 pub mod Paths
 pub mod Sample
+pub mod Writes

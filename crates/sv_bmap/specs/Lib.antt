@@ -1,5 +1,7 @@
 pub mod Causes
+pub mod Hang
 pub mod Need
 pub mod Order
 pub mod Sample
 pub mod Tree
+pub mod Writes

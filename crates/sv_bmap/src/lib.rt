@@ -7,6 +7,7 @@
 //! The tree is read out of the lines that the stake holds. Its blocks are held, and each stands in it once.
 #![tactic(auto)]
 
+mod attach;
 mod order;
 mod pages;
 #[cfg(test)]
