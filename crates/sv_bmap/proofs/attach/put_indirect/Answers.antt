@@ -1,5 +1,4 @@
 -- The block has zero bytes before the number is put.
-use Rattle.std.proofs.Common.{ap, ◌∙◌}
 use Rattle.sv_bmap.proofs.Writes.{holds-put, made-anew}
 use Rattle.sv_bmap.proofs.attach.put_indirect.Goals as goal
 

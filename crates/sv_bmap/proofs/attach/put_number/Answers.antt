@@ -1,6 +1,6 @@
 -- All lines of the block are held, so that it can be put back with any bytes.
-use Rattle.std.proofs.Common.{length, ap, ◌∙◌, sym, refl}
-use Rattle.sv_bmap.proofs.Writes.{CanPut-whole, lent-at, back, refilled, holds-put}
+use Rattle.std.proofs.Common.{length, ap, ◌∙◌, refl}
+use Rattle.sv_bmap.proofs.Writes.{CanPut-whole, lent-at, back, refilled}
 use Rattle.sv_store.specs.Held.{nothing_lent}
 use Rattle.sv_bmap.proofs.attach.put_number.Goals as goal
 

@@ -1,6 +1,5 @@
 -- The zero bytes are all written over.
-use Rattle.std.proofs.Common.{◌≡◌, List, ℕ, length, ap, ◌∙◌, sym, refl}
-use Rattle.std.specs.List.{refill}
+use Rattle.std.proofs.Common.{ℕ, length, ap, ◌∙◌, sym, refl}
 use Rattle.std.proofs.lemmas.List.{length-replicate}
 use Rattle.sv_store.specs.Held.{nothing_lent}
 use Rattle.sv_bmap.proofs.Writes.{CanPut-whole, lent-at, lent-with, back, refilled, holds-put, put-anew}
