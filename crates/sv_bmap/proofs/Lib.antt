@@ -2,7 +2,9 @@ pub mod Empty
 pub mod Hang
 pub mod Needs
 pub mod Orders
+pub mod PageSpots
 pub mod Parts
 pub mod Paths
+pub mod Rows
 pub mod Sample
 pub mod Writes

@@ -120,17 +120,17 @@ page-block-is g g' h a p page e is at =
 
 -- ---- the blocks on the way to a page are held
 
-top-spot : (n slot : ℕ) → slot < 13 → IsSpot n slot []
+pub top-spot : (n slot : ℕ) → slot < 13 → IsSpot n slot []
 top-spot n slot low = record { among = low; deep = omega arith; places = λ i below. absurd (omega arith) }
 
-one-spot : (n slot i : ℕ) → slot < 13 → 10 ≤ slot → i < n → IsSpot n slot (i ∷ [])
+pub one-spot : (n slot i : ℕ) → slot < 13 → 10 ≤ slot → i < n → IsSpot n slot (i ∷ [])
 one-spot n slot i low high first = record { among = low; deep = omega arith; places = each }
   where
     each : (m : ℕ) → m < length (i ∷ []) → get_or (i ∷ []) m 0 < n
     each zero below = first
     each (suc m) below = absurd (omega arith)
 
-two-spot : (n slot i j : ℕ) → slot < 13 → 11 ≤ slot → i < n → j < n → IsSpot n slot (i ∷ j ∷ [])
+pub two-spot : (n slot i j : ℕ) → slot < 13 → 11 ≤ slot → i < n → j < n → IsSpot n slot (i ∷ j ∷ [])
 two-spot n slot i j low high first second = record { among = low; deep = omega arith; places = each }
   where
     each : (m : ℕ) → m < length (i ∷ j ∷ []) → get_or (i ∷ j ∷ []) m 0 < n

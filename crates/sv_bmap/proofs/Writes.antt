@@ -84,7 +84,7 @@ put-anew h {h1} {h2} {b} {c} {bytes} new z puts e f made =
 
 -- ---- one number of a block that was read
 
-other-number : (was bytes : List ℕ) (k j : ℕ) → ChangesOnly was bytes (k * 4) (k * 4 + 4) → j ≢ k → number32 bytes (j * 4) ≡ number32 was (j * 4)
+pub other-number : (was bytes : List ℕ) (k j : ℕ) → ChangesOnly was bytes (k * 4) (k * 4 + 4) → j ≢ k → number32 bytes (j * 4) ≡ number32 was (j * 4)
 other-number was bytes k j others apart =
     four _ _ _ _ _ _ _ _ (byte (j * 4) (omega arith) (omega arith)) (byte (j * 4 + 1) (omega arith) (omega arith)) (byte (j * 4 + 2) (omega arith) (omega arith)) (byte (j * 4 + 2 + 1) (omega arith) (omega arith))
   where

@@ -3,6 +3,7 @@ pub mod Hang
 pub mod Need
 pub mod Order
 pub mod Parts
+pub mod Rows
 pub mod Sample
 pub mod Tree
 pub mod Writes
