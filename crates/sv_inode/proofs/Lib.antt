@@ -1,0 +1,3 @@
+mod PageParts
+mod PagesHeld
+mod Nodes

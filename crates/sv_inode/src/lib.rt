@@ -1,0 +1,11 @@
+//! A locked inode: what one process does with a file while nobody else may.
+//!
+//! - `LockedInode` is an inode's number and body, with the stake that holds its lines. With these lines it stands for a
+//!   node: a kind, mode bits, links, a size and pages.
+//! - `readi` gives bytes of the node; it reads each page once and asks for the next one ahead.
+#![tactic(auto)]
+
+mod locked;
+mod range;
+
+pub use locked::LockedInode;

@@ -1,0 +1,167 @@
+// Bytes of a file, page by page.
+ghost use Rattle.std.specs.Prelude.{◌≡◌, ◌≤◌, ◌<◌, ◌+◌, ◌++◌, ℕ, [], IfOk, IfSome, OnOk, OnErr, replicate};
+ghost use Rattle.sv_form.specs.Geometry.{IsGeometry};
+ghost use Rattle.sv_form.specs.PagePath.{IsPage, greatest_size};
+ghost use Rattle.sv_store.specs.Calls.{CanGet, Gets};
+ghost use Rattle.sv_store.specs.Causes.{HasFault};
+ghost use Rattle.sv_store.specs.Held.{HoldsBlock, nothing_lent, with};
+ghost use Rattle.sv_bmap.specs.Causes.{HasReason};
+ghost use Rattle.sv_bmap.specs.Tree.{IsTree};
+ghost use Rattle.sv_inode.specs.Contents.{block_before, file_bytes, part_bytes};
+
+use std::alloc::Global;
+use std::sync::Wait;
+use sv_bmap::{Addresses, lookup};
+use sv_form::Bytes;
+use sv_store::{Buf, NoMemory, Refusal, Stake};
+
+// So many bytes of the file, in one vector that has room for all of them.
+pub(crate) fn read_range<R: Wait, S: Stake>(
+    rt: &R,
+    alloc: Global,
+    a: &Addresses,
+    s: &mut S,
+    at: u32,
+    count: u32,
+) -> Result<Bytes, Refusal>
+    requires tree { IsTree (S.origin s.old) (S.held s.old) a.now }
+    requires end { 0 < count → at + count ≤ greatest_size (S.origin s.old).sizes }
+    requires lent { S.lent s.old ≡ nothing_lent }
+    ensures bytes { IfOk result (λ bytes. bytes ≡ file_bytes (S.origin s.old).sizes (S.held s.old) a.now at count) }
+    ensures held { S.held s.new ≡ S.held s.old }
+    ensures lends { S.lent s.new ≡ nothing_lent }
+    ensures forced { S.forced s.new ≡ S.forced s.old }
+    ensures origin { S.origin s.new ≡ S.origin s.old }
+    ensures cause { HasReason (S.faults s.old) (S.faults s.new) result }
+{
+    if count == 0 {
+        return Ok(Bytes::from_vec(Vec::new(alloc)));
+    }
+    let mut bytes = Vec::with_capacity(alloc, count as usize)?;
+    add_range(rt, a, s, at, count, &mut bytes)?;
+    Ok(Bytes::from_vec(bytes))
+}
+
+// Adds so many bytes of the file, at least one, to none. The block of each page is looked up one page ahead.
+fn add_range<R: Wait, S: Stake>(
+    rt: &R,
+    a: &Addresses,
+    s: &mut S,
+    at: u32,
+    count: u32,
+    bytes: &mut Vec<u8>,
+) -> Result<(), Refusal>
+    requires tree { IsTree (S.origin s.old) (S.held s.old) a.now }
+    requires some { 0 < count }
+    requires end { at + count ≤ greatest_size (S.origin s.old).sizes }
+    requires lent { S.lent s.old ≡ nothing_lent }
+    requires bytes { bytes.old.items ≡ [] }
+    ensures bytes { OnOk result (bytes.new.items ≡ file_bytes (S.origin s.old).sizes (S.held s.old) a.now at count) }
+    ensures held { S.held s.new ≡ S.held s.old }
+    ensures lends { S.lent s.new ≡ nothing_lent }
+    ensures forced { S.forced s.new ≡ S.forced s.old }
+    ensures origin { S.origin s.new ≡ S.origin s.old }
+    ensures cause { HasReason (S.faults s.old) (S.faults s.new) result }
+{
+    let sizes = s.geometry();
+    let end = at + count;
+    let first = at / sizes.block_size;
+    let pages = end.div_ceil(sizes.block_size);
+    let mut block = look_before(rt, a, s, first, pages)?;
+    for page in first..pages {
+        let next = look_before(rt, a, s, page + 1, pages)?;
+        let start = page * sizes.block_size;
+        let from = at.max(start) - start;
+        let upto = (end - start).min(sizes.block_size);
+        add_part(rt, s, block, next, from, upto - from, bytes)?;
+        block = next;
+    }
+    Ok(())
+}
+
+// The block of a page that comes before `end`.
+fn look_before<R: Wait, S: Stake>(
+    rt: &R,
+    a: &Addresses,
+    s: &mut S,
+    page: u32,
+    end: u32,
+) -> Result<Option<u32>, Refusal>
+    requires tree { IsTree (S.origin s.old) (S.held s.old) a.now }
+    requires page { page < end → IsPage (S.origin s.old).sizes page }
+    requires lent { S.lent s.old ≡ nothing_lent }
+    ensures block { IfOk result (λ block. block ≡ block_before (S.origin s.old).sizes (S.held s.old) a.now page end) }
+    ensures held { S.held s.new ≡ S.held s.old }
+    ensures lends { S.lent s.new ≡ nothing_lent }
+    ensures forced { S.forced s.new ≡ S.forced s.old }
+    ensures origin { S.origin s.new ≡ S.origin s.old }
+    ensures cause { HasFault (S.faults s.old) (S.faults s.new) result }
+{
+    if page < end {
+        lookup(rt, a, s, page)
+    } else {
+        Ok(None)
+    }
+}
+
+// Adds so many bytes of one page, and asks for the next page ahead.
+fn add_part<R: Wait, S: Stake>(
+    rt: &R,
+    s: &mut S,
+    block: Option<u32>,
+    next: Option<u32>,
+    from: u32,
+    count: u32,
+    bytes: &mut Vec<u8>,
+) -> Result<(), Refusal>
+    requires sizes { IsGeometry (S.origin s.old).sizes }
+    requires block { IfSome block (λ b. HoldsBlock (S.origin s.old) (S.held s.old) b) }
+    requires next { IfSome next (λ b. b < (S.origin s.old).sizes.blocks) }
+    requires part { from + count ≤ (S.origin s.old).sizes.block_size }
+    requires lent { S.lent s.old ≡ nothing_lent }
+    ensures bytes { OnOk result (bytes.new.items ≡ bytes.old.items ++ part_bytes (S.held s.old) block from count) }
+    ensures held { S.held s.new ≡ S.held s.old }
+    ensures lends { S.lent s.new ≡ nothing_lent }
+    ensures forced { S.forced s.new ≡ S.forced s.old }
+    ensures origin { S.origin s.new ≡ S.origin s.old }
+    ensures cause { HasReason (S.faults s.old) (S.faults s.new) result }
+{
+    let Some(b) = block else {
+        add_zeros(count, bytes)?;
+        return Ok(());
+    };
+    let buf = get_page(rt, s, b, next)?;
+    let page = buf.bytes();
+    let added = bytes.extend_from_slice(&page[from as usize..(from + count) as usize]);
+    s.brelse(rt, buf);
+    added?;
+    Ok(())
+}
+
+// Gets a page, and asks for the next one ahead if there is any (Bach, algorithm breada).
+fn get_page<R: Wait, S: Stake>(rt: &R, s: &mut S, b: u32, next: Option<u32>) -> Result<Buf, Refusal>
+    requires block { CanGet (S.held s.old) (S.lent s.old) b }
+    requires next { IfSome next (λ b. b < (S.origin s.old).sizes.blocks) }
+    ensures ok { IfOk result (Gets (S.origin s.old) (S.held s.old) b) }
+    ensures lends { IfOk result (λ buf. S.lent s.new ≡ with b buf.bytes (S.lent s.old)) }
+    ensures err { OnErr result (S.lent s.new ≡ S.lent s.old) }
+    ensures held { S.held s.new ≡ S.held s.old }
+    ensures forced { S.forced s.new ≡ S.forced s.old }
+    ensures origin { S.origin s.new ≡ S.origin s.old }
+    ensures cause { HasFault (S.faults s.old) (S.faults s.new) result }
+{
+    match next {
+        Some(next) => s.breada(rt, b, next),
+        None => s.bread(rt, b),
+    }
+}
+
+// Adds so many zero bytes.
+fn add_zeros(count: u32, bytes: &mut Vec<u8>) -> Result<(), NoMemory>
+    ensures { OnOk result (bytes.new.items ≡ bytes.old.items ++ replicate count 0) }
+{
+    for _byte in 0..count {
+        bytes.push(0)?;
+    }
+    Ok(())
+}
