@@ -1,3 +1,4 @@
 mod PageParts
 mod PagesHeld
 mod Nodes
+mod FourPages

@@ -44,12 +44,15 @@ node_bytes o h body node pos stands at count fits =
     same_map (byte_of o.sizes.block_size node) (file_byte o.sizes h body.addresses) at at count
     (λ k low. byte_is o h body node pos stands (at + k) (let end : at + count ≤ greatest_size o.sizes = fits (omega arith) in omega arith))
 
--- what was read of the file is what the node has there
-pub read_node : {E : Type 0} (o : Origin) (h : Held) (body : InodeBody) (node : Node) (at count : ℕ) (result : Result (List ℕ) E) → 0 < o.sizes.block_size → body.size ≤ greatest_size o.sizes → StandsFor o h body node
-    → IfOk result (λ bytes. bytes ≡ file_bytes o.sizes h body.addresses at (min count (body.size - at)))
+-- what was read of the file, n bytes, is what the node has there
+pub read_node : {E : Type 0} (o : Origin) (h : Held) (body : InodeBody) (node : Node) (at count room n : ℕ) (result : Result (List ℕ) E) → 0 < o.sizes.block_size → body.size ≤ greatest_size o.sizes → StandsFor o h body node
+    → room ≡ body.size - at → n ≡ min count room
+    → IfOk result (λ bytes. bytes ≡ file_bytes o.sizes h body.addresses at n)
     → IfOk result (λ bytes. bytes ≡ bytes_of o.sizes.block_size node at (min count (node.size - at)))
-read_node o h body node at count result pos limit stands is =
-    let same : file_bytes o.sizes h body.addresses at (min count (body.size - at)) ≡ bytes_of o.sizes.block_size node at (min count (node.size - at)) =
-    sym (node_bytes o h body node pos stands at (min count (body.size - at)) (λ some. omega arith)) ∙ ap (λ q. bytes_of o.sizes.block_size node at (min count (q - at))) stands.described.size in
+read_node o h body node at count room n result pos limit stands e f is =
+    let size : body.size ≡ node.size = stands.described.size in
+    let many : n ≡ min count (node.size - at) = omega arith in
+    let same : file_bytes o.sizes h body.addresses at n ≡ bytes_of o.sizes.block_size node at (min count (node.size - at)) =
+    sym (node_bytes o h body node pos stands at n (λ some. omega arith)) ∙ ap (bytes_of o.sizes.block_size node at) many in
     let P : List ℕ → Type 0 = λ q. IfOk result (λ bytes. bytes ≡ q) in
     subst P same is

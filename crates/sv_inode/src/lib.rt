@@ -7,5 +7,7 @@
 
 mod locked;
 mod range;
+#[cfg(test)]
+mod tests;
 
 pub use locked::LockedInode;
