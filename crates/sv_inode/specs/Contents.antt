@@ -1,5 +1,5 @@
 -- The bytes of a file, read out of the held lines by way of its address tree.
-use Rattle.std.specs.Prelude.{◌/◌, ◌%◌, ℕ, List, [], Option, Some, None, map, nat_lt, slice_index, unwrap_or, if◌then◌else◌}
+use Rattle.std.specs.Prelude.{◌+◌, ◌-◌, ◌/◌, ◌%◌, ◌==◌, ℕ, zero, suc, List, [], Option, Some, None, map, slice_index, unwrap_or, if◌then◌else◌}
 use Rattle.std.specs.List.{range_with_len}
 use Rattle.sv_form.specs.declared.geometry.Geometry.{Geometry}
 use Rattle.sv_store.specs.Held.{Held}
@@ -18,9 +18,29 @@ part_bytes h block from count = map (part_byte h block) (range_with_len from cou
 abbrev pub block_of : Geometry → Held → List ℕ → ℕ → Option ℕ
 block_of g h a page = no_hole (page_block g h a page)
 
--- the block of a page that comes before a given page
-abbrev pub block_before : Geometry → Held → List ℕ → ℕ → ℕ → Option ℕ
-block_before g h a page end = if nat_lt page end then block_of g h a page else None
+-- this page, where it has a block, and else what comes after it
+abbrev pub or_after : ℕ → Option ℕ → Option (ℕ × ℕ) → Option (ℕ × ℕ)
+or_after page None after = after
+or_after page (Some b) after = Some (page, b)
+
+-- the first page that is present among so many pages, with its block
+abbrev pub first_present : Geometry → Held → List ℕ → ℕ → ℕ → Option (ℕ × ℕ)
+first_present g h a page zero = None
+first_present g h a page (suc n) = or_after page (block_of g h a page) (first_present g h a (page + 1) n)
+
+-- the first page that is present from one page on and before another
+unfoldable pub present_before : Geometry → Held → List ℕ → ℕ → ℕ → Option (ℕ × ℕ)
+present_before g h a page end = first_present g h a page (end - page)
+
+-- the block of this page, where it is the one that is present
+abbrev pub block_there : ℕ → Option (ℕ × ℕ) → Option ℕ
+block_there page None = None
+block_there page (Some present) = if present.0 == page then Some present.1 else None
+
+-- the block of the page that is present
+abbrev pub ahead_block : Option (ℕ × ℕ) → Option ℕ
+ahead_block None = None
+ahead_block (Some present) = Some present.1
 
 -- byte k of the file: it is in the page k / block size
 unfoldable pub file_byte : Geometry → Held → List ℕ → ℕ → ℕ

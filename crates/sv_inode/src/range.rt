@@ -7,7 +7,7 @@ ghost use Rattle.sv_store.specs.Causes.{HasFault};
 ghost use Rattle.sv_store.specs.Held.{HoldsBlock, nothing_lent, with};
 ghost use Rattle.sv_bmap.specs.Causes.{HasReason};
 ghost use Rattle.sv_bmap.specs.Tree.{IsTree};
-ghost use Rattle.sv_inode.specs.Contents.{block_before, file_bytes, part_bytes};
+ghost use Rattle.sv_inode.specs.Contents.{ahead_block, block_there, file_bytes, part_bytes, present_before};
 
 use std::alloc::Global;
 use std::sync::Wait;
@@ -42,7 +42,8 @@ pub(crate) fn read_range<R: Wait, S: Stake>(
     Ok(Bytes::from_vec(bytes))
 }
 
-// Adds so many bytes of the file, at least one, to none. The block of each page is looked up one page ahead.
+// Adds so many bytes of the file, at least one, to none. The pages that are present are looked up one
+// ahead of the page that is read.
 fn add_range<R: Wait, S: Stake>(
     rt: &R,
     a: &Addresses,
@@ -67,40 +68,93 @@ fn add_range<R: Wait, S: Stake>(
     let end = at + count;
     let first = at / sizes.block_size;
     let pages = end.div_ceil(sizes.block_size);
-    let mut block = look_before(rt, a, s, first, pages)?;
+    let mut ahead = look_ahead(rt, a, s, first, pages)?;
     for page in first..pages {
-        let next = look_before(rt, a, s, page + 1, pages)?;
+        let block = block_at(ahead, page);
+        let next = look_past(rt, a, s, ahead, page, pages)?;
         let start = page * sizes.block_size;
         let from = at.max(start) - start;
         let upto = (end - start).min(sizes.block_size);
-        add_part(rt, s, block, next, from, upto - from, bytes)?;
-        block = next;
+        add_part(rt, s, block, block_of(next), from, upto - from, bytes)?;
+        ahead = next;
     }
     Ok(())
 }
 
-// The block of a page that comes before `end`.
-fn look_before<R: Wait, S: Stake>(
+// A page that is no hole, and its block.
+type Present = (u32, u32);
+
+// The block of this page, where it is the first one that is present.
+fn block_at(ahead: Option<Present>, page: u32) -> Option<u32>
+    ensures { result ≡ block_there page ahead }
+{
+    match ahead {
+        Some((present, block)) => { if present == page { Some(block) } else { None } }
+        None => None,
+    }
+}
+
+// The block of the page ahead.
+fn block_of(ahead: Option<Present>) -> Option<u32>
+    ensures { result ≡ ahead_block ahead }
+{
+    match ahead {
+        Some((_, block)) => Some(block),
+        None => None,
+    }
+}
+
+// The first page that is present from this one on and before `end`.
+fn look_ahead<R: Wait, S: Stake>(
     rt: &R,
     a: &Addresses,
     s: &mut S,
-    page: u32,
+    first: u32,
     end: u32,
-) -> Result<Option<u32>, Refusal>
+) -> Result<Option<Present>, Refusal>
     requires tree { IsTree (S.origin s.old) (S.held s.old) a.now }
-    requires page { page < end → IsPage (S.origin s.old).sizes page }
+    requires pages { (page : ℕ) → page < end → IsPage (S.origin s.old).sizes page }
     requires lent { S.lent s.old ≡ nothing_lent }
-    ensures block { IfOk result (λ block. block ≡ block_before (S.origin s.old).sizes (S.held s.old) a.now page end) }
+    ensures ahead { IfOk result (λ ahead. ahead ≡ present_before (S.origin s.old).sizes (S.held s.old) a.now first end) }
     ensures held { S.held s.new ≡ S.held s.old }
     ensures lends { S.lent s.new ≡ nothing_lent }
     ensures forced { S.forced s.new ≡ S.forced s.old }
     ensures origin { S.origin s.new ≡ S.origin s.old }
     ensures cause { HasFault (S.faults s.old) (S.faults s.new) result }
 {
-    if page < end {
-        lookup(rt, a, s, page)
-    } else {
-        Ok(None)
+    for page in first..end {
+        let block = lookup(rt, a, s, page)?;
+        if let Some(b) = block {
+            return Ok(Some((page, b)));
+        }
+    }
+    Ok(None)
+}
+
+// The first page that is present after this one and before `end`, where `ahead` is the first from this one on.
+fn look_past<R: Wait, S: Stake>(
+    rt: &R,
+    a: &Addresses,
+    s: &mut S,
+    ahead: Option<Present>,
+    page: u32,
+    end: u32,
+) -> Result<Option<Present>, Refusal>
+    requires tree { IsTree (S.origin s.old) (S.held s.old) a.now }
+    requires pages { (page : ℕ) → page < end → IsPage (S.origin s.old).sizes page }
+    requires ahead { ahead ≡ present_before (S.origin s.old).sizes (S.held s.old) a.now page end }
+    requires page { page < end }
+    requires lent { S.lent s.old ≡ nothing_lent }
+    ensures ahead { IfOk result (λ next. next ≡ present_before (S.origin s.old).sizes (S.held s.old) a.now (page + 1) end) }
+    ensures held { S.held s.new ≡ S.held s.old }
+    ensures lends { S.lent s.new ≡ nothing_lent }
+    ensures forced { S.forced s.new ≡ S.forced s.old }
+    ensures origin { S.origin s.new ≡ S.origin s.old }
+    ensures cause { HasFault (S.faults s.old) (S.faults s.new) result }
+{
+    match block_at(ahead, page) {
+        Some(_) => look_ahead(rt, a, s, page + 1, end),
+        None => Ok(ahead),
     }
 }
 
