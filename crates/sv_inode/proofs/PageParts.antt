@@ -1,8 +1,7 @@
 -- Parts of pages, one after another, are the bytes of a file.
-use Rattle.std.proofs.Common.{◌≡◌, ◌+◌, ◌-◌, ◌*◌, ◌/◌, ◌%◌, ◌<◌, ◌≤◌, ℕ, zero, suc, List, [], ◌∷◌, ◌++◌, length, get_or, drop, map, replicate, min, max, Bool, true, false, nat_lt, Option, Some, None, IsSome, IfSome, unwrap_or, slice_range, arith, refl, sym, ◌∙◌, ap, subst}
+use Rattle.std.proofs.Common.{◌≡◌, ◌+◌, ◌-◌, ◌*◌, ◌/◌, ◌%◌, ◌<◌, ◌≤◌, ℕ, zero, suc, List, [], ◌∷◌, ◌++◌, length, get_or, drop, map, replicate, min, max, Option, Some, None, IsSome, IfSome, unwrap_or, slice_range, arith, refl, sym, ◌∙◌, ap, subst}
 use Rattle.std.specs.List.{range_with_len}
 use Rattle.std.proofs.lemmas.Bool.{false≢true}
-use Rattle.std.proofs.lemmas.Bool.Decides.{nat_tests}
 use Rattle.std.proofs.lemmas.Grind.{div_ceil_times}
 use Rattle.std.proofs.lemmas.List.{same_lists, places, length-replicate, get_or-replicate, length-take, length-drop, get_or-take, get_or-drop, map-append, append_assoc, replicate-append-replicate}
 use Rattle.std.proofs.lemmas.List.FromFn.{length-map-range_with_len, get_or-map-range_with_len}
@@ -149,17 +148,3 @@ page_over at b first p pos e low =
     let more : first * b ≤ p * b = mul-le-mul_right b low in
     let next : (p + 1) * b ≡ p * b + b = grind arith in
     omega arith
-
--- there is a page
-pub page_some : (at end b first pages : ℕ) → 0 < b → at < end → first ≡ at / b → pages ≡ end / b + min 1 (end % b) → first < pages
-page_some at end b first pages pos some e f = by (nat_lt first pages) refl
-  where
-    by : (t : Bool) → nat_lt first pages ≡ t → first < pages
-    by true h = grind (nat_tests, arith)
-    by false h =
-        let none : pages ≤ first = grind (nat_tests, arith) in
-        let low : at / b * b ≤ at = div-mul-le_self at b in
-        let reach : end ≤ pages * b = subst (λ (q : ℕ). end ≤ q * b) (sym f) (div_ceil_times end b pos).0 in
-        let begin : first * b ≤ at = subst (λ (q : ℕ). q * b ≤ at) (sym e) low in
-        let more : pages * b ≤ first * b = mul-le-mul_right b none in
-        absurd (omega arith)

@@ -2,7 +2,7 @@
 //!
 //! - `LockedInode` is an inode's number and body, with the stake that holds its lines. With these lines it stands for a
 //!   node: a kind, mode bits, links, a size and pages.
-//! - `readi` gives bytes of the node; it reads each page once and asks for the next one ahead.
+//! - `readi` gives bytes of the node; it reads each page once and asks for the next one that is present ahead.
 #![tactic(auto)]
 
 mod locked;
