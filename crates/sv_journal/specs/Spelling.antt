@@ -1,5 +1,5 @@
--- The text of a journal: a first line with the number of processes and the size of the file table, and then a line for
--- each entry. Words are split by one space, and each line is ended by a newline byte.
+-- The text of a journal: a first line with the number of processes and of the places for in-core inodes, and then a line
+-- for each entry. Words are split by one space, and each line is ended by a newline byte.
 use Rattle.std.specs.Prelude.{◌++◌, ◌==◌, ℕ, List, length, codes, false, if◌then◌else◌}
 use Rattle.std.specs.List.{flat_map}
 use Rattle.std.specs.Fmt.{decimal, digits, signed_decimal}
