@@ -207,6 +207,7 @@ impl Walk {
         ensures past { self.new.past ≡ false }
         ensures tail { self.new.tail ≡ false }
         ensures owner { self.new.owner ≡ self.old.owner }
+        ensures bad { self.new.bad ≡ self.old.bad }
     {
         self.past = false;
         self.tail = false;
