@@ -9,18 +9,18 @@ use Rattle.sv_bmap.specs.Tree.{IsSpot, IsTree, block_at, child, down}
 use Rattle.sv_bmap.specs.Hang.{Hangs}
 use Rattle.sv_bmap.proofs.Paths.{child-hole}
 
-down-snoc : (h : Held) (b : ℕ) (ks : List ℕ) (k : ℕ) → down h b (ks ++ k ∷ []) ≡ child h (down h b ks) k
+pub down-snoc : (h : Held) (b : ℕ) (ks : List ℕ) (k : ℕ) → down h b (ks ++ k ∷ []) ≡ child h (down h b ks) k
 down-snoc h b [] k = refl
 down-snoc h b (j ∷ ks) k = down-snoc h (child h b j) ks k
 
-length-front : (ks : List ℕ) (m : ℕ) → m ≤ length ks → length (take m ks) ≡ m
+pub length-front : (ks : List ℕ) (m : ℕ) → m ≤ length ks → length (take m ks) ≡ m
 length-front ks m low = length-take m ks ∙ omega (arith, low)
 
 -- the last place of a list
 last-place : (ks : List ℕ) (m : ℕ) → length ks ≡ suc m → ks ≡ take m ks ++ get_or ks m 0 ∷ []
 last-place ks m e = sym (take_all (m + 1) ks (omega (arith, e))) ∙ take_more ks m 0 (omega (arith, e))
 
-front-spot : {n t : ℕ} (ks : List ℕ) (m : ℕ) → m ≤ length ks → IsSpot n t ks → IsSpot n t (take m ks)
+pub front-spot : {n t : ℕ} (ks : List ℕ) (m : ℕ) → m ≤ length ks → IsSpot n t ks → IsSpot n t (take m ks)
 front-spot {n} {t} ks m low spot = record {
   among = spot.among;
   deep = omega (arith, spot.deep, length-front ks m low, low);

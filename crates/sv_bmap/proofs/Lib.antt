@@ -1,7 +1,13 @@
+pub mod Built
+pub mod Cut
 pub mod Empty
+pub mod Gaps
 pub mod Hang
+pub mod Kept
+pub mod Links
 pub mod Needs
 pub mod Orders
+pub mod PagePaths
 pub mod PageSpots
 pub mod Parts
 pub mod Paths

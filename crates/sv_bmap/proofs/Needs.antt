@@ -44,7 +44,7 @@ unfolding need_of
 need-more g h a first k = sum-more (need_at g h a first) first k
 
 -- one where the test holds
-abbrev flag : Bool → ℕ
+abbrev pub flag : Bool → ℕ
 flag t = cond t 1 0
 
 -- two tests agree where each of the two equations gives the other
@@ -96,19 +96,19 @@ last first page from block low e = ap (λ q. flag ((block == 0) && q)) (sym (sam
     same : (x y : ℕ) → x ≡ y → (x == y) ≡ true
     same x y h = grind (nat_tests, arith)
 
-count-one : (f : Step → Bool) (x : Step) → count_by f (x ∷ []) ≡ flag (f x)
+pub count-one : (f : Step → Bool) (x : Step) → count_by f (x ∷ []) ≡ flag (f x)
 count-one f x = count-cons f x [] ∙ omega arith
 
-count-two : (f : Step → Bool) (x y : Step) → count_by f (x ∷ y ∷ []) ≡ flag (f x) + flag (f y)
+pub count-two : (f : Step → Bool) (x y : Step) → count_by f (x ∷ y ∷ []) ≡ flag (f x) + flag (f y)
 count-two f x y = count-cons f x (y ∷ []) ∙ ap (λ q. flag (f x) + q) (count-one f y)
 
-count-three : (f : Step → Bool) (x y z : Step) → count_by f (x ∷ y ∷ z ∷ []) ≡ flag (f x) + (flag (f y) + flag (f z))
+pub count-three : (f : Step → Bool) (x y z : Step) → count_by f (x ∷ y ∷ z ∷ []) ≡ flag (f x) + (flag (f y) + flag (f z))
 count-three f x y z = count-cons f x (y ∷ z ∷ []) ∙ ap (λ q. flag (f x) + q) (count-two f y z)
 
-count-four : (f : Step → Bool) (w x y z : Step) → count_by f (w ∷ x ∷ y ∷ z ∷ []) ≡ flag (f w) + (flag (f x) + (flag (f y) + flag (f z)))
+pub count-four : (f : Step → Bool) (w x y z : Step) → count_by f (w ∷ x ∷ y ∷ z ∷ []) ≡ flag (f w) + (flag (f x) + (flag (f y) + flag (f z)))
 count-four f w x y z = count-cons f w (x ∷ y ∷ z ∷ []) ∙ ap (λ q. flag (f w) + q) (count-three f x y z)
 
-need-is : (g g' : Geometry) (h : Held) (a : List ℕ) (p : PagePath) (first page : ℕ) → g' ≡ g → IsPath g' p → page_of g' p ≡ page → need_at g h a first page ≡ count_by (counts_at first page) (way g' h a p)
+pub need-is : (g g' : Geometry) (h : Held) (a : List ℕ) (p : PagePath) (first page : ℕ) → g' ≡ g → IsPath g' p → page_of g' p ≡ page → need_at g h a first page ≡ count_by (counts_at first page) (way g' h a p)
 unfolding need_at
 need-is g g' h a p first page e is at =
     ap (λ q. count_by (counts_at first page) (way q h a (path (block_numbers q) page))) (sym e)
@@ -122,7 +122,7 @@ same_row n i j k l p q e = sym (div-mul-add i n j p) ∙ ap (λ (x : ℕ). x / n
 same_column : (n i j k l : ℕ) → j < n → l < n → i * n + j ≡ k * n + l → j ≡ l
 same_column n i j k l p q e = sym (mod-mul-add i n j p) ∙ ap (λ (x : ℕ). x % n) e ∙ mod-mul-add k n l q
 
-row-grows : (n i j k l : ℕ) → i ≤ k → j ≤ l → i * n + j ≤ k * n + l
+pub row-grows : (n i j k l : ℕ) → i ≤ k → j ≤ l → i * n + j ≤ k * n + l
 row-grows n i j k l p q = grind arith
 
 both : (a b c d x y : ℕ) → (a ≡ b → c ≡ d → x ≡ y) → (x ≡ y → (a ≡ b) × (c ≡ d)) → ((a == b) && (c == d)) ≡ (x == y)

@@ -33,7 +33,7 @@ path-deep g (Double i j) is = refl
 path-deep g (Triple i j k) is = refl
 
 -- two pages at one spot are one page
-same-page : (g : Geometry) (p q : PagePath) → IsPath g p → IsPath g q → slot_of p ≡ slot_of q → places_of p ≡ places_of q → page_of g p ≡ page_of g q
+pub same-page : (g : Geometry) (p q : PagePath) → IsPath g p → IsPath g q → slot_of p ≡ slot_of q → places_of p ≡ places_of q → page_of g p ≡ page_of g q
 same-page g (Direct i) (Direct j) is also e f = e
 same-page g (Direct i) (Single j) is also e f = absurd (omega (arith, is, e))
 same-page g (Direct i) (Double j k) is also e f = absurd (omega (arith, is, e))

@@ -3,7 +3,9 @@ use Rattle.std.proofs.Common.{◌≡◌, ◌≢◌, ◌<◌, ◌≤◌, ◌+◌,
 use Rattle.std.specs.Global.{Vec}
 use Rattle.std.specs.Vec.{vec_len}
 use Rattle.std.proofs.Math.Seq.{take-append_seam, get_or-append_seam}
-use Rattle.std.proofs.lemmas.List.{take-append-drop, take-append-le, length-take, length-append, get_or-take}
+use Rattle.std.specs.List.{list_any, sum_by}
+use Rattle.std.proofs.lemmas.List.Sums.{sum_by-cons}
+use Rattle.std.proofs.lemmas.List.{drop_all, drop_more, take-append-drop, take-append-le, length-take, length-append, get_or-take}
 use Rattle.std.proofs.lemmas.Bool.{false≢true, eqb-true}
 use Rattle.std.proofs.lemmas.Bool.Decides.{nat_tests}
 use Rattle.sv_dev.specs.Causes.{counted}
@@ -92,9 +94,6 @@ popped {X} ps xs ys x d n m front low next pop = (rest, last)
     last =
         sym (get_or-append_seam ys x [] d) ∙ (ap (λ q. get_or (ys ++ x ∷ []) q d) count ∙ (ap (λ q. get_or q m d) (sym pop ∙ front) ∙ get_or-take n ps m d (omega (arith, next))))
 
-pub neither : {a b c : Bool} → c ≡ (a || b) → a ≡ false → b ≡ false → c ≡ false
-neither {a} {b} {c} e p q = e ∙ (ap (λ x. x || b) p ∙ q)
-
 pub Apart-eq : {h k k' : Held} → k' ≡ k → Apart h k → Apart h k'
 Apart-eq {h} {k} {k'} e apart = record { at = λ b l is. ap (λ q. q b l) e ∙ apart.at b l is }
 
@@ -104,8 +103,47 @@ from-eq {m} {n} {h} {new} {parts} e joins = (let P : ℕ → Type 0 = λ q. Join
 pub none-left : {X : Type 0} (ps xs : List X) (n : ℕ) → xs ≡ take n ps → n ≤ length ps → 0 < n → length xs ≡ 0 → ⊥
 none-left ps xs n front low some none = absurd (omega (arith, ap length front, length-take n ps, low, some, none))
 
-pub counted-more : {x now new : ℕ} (y : ℕ) → new ≡ counted now y → (x ≤ now) × (now < 2 ^ 64) → (x ≤ new) × (new < 2 ^ 64)
-counted-more {x} {now} {new} y e h = (omega (arith, e, h.0, h.1), omega (arith, e, h.0, h.1))
+-- ---- what is counted, and whether a call was forced
+
+or-false : (a : Bool) → a ≡ (a || false)
+or-false true = refl
+or-false false = refl
+
+or-turn : (a b c : Bool) → ((a || b) || c) ≡ (a || (c || b))
+or-turn true b c = refl
+or-turn false true true = refl
+or-turn false true false = refl
+or-turn false false true = refl
+or-turn false false false = refl
+
+pub forced-none : {S : Type 0} (forced : S → Bool) (ps : List S) (n : ℕ) (f : Bool) → length ps ≤ n → f ≡ (f || list_any forced (drop n ps))
+forced-none forced ps n f past = or-false f ∙ ap (λ q. f || list_any forced q) (sym (drop_all n ps past))
+
+pub forced-more : {S : Type 0} (forced : S → Bool) (ps : List S) (m n : ℕ) (p : S) (f : Bool) {now new : Bool} → m < length ps → n ≡ m + 1 → p ≡ get_or ps m p → now ≡ (f || list_any forced (drop n ps)) → new ≡ (now || forced p) → new ≡ (f || list_any forced (drop m ps))
+forced-more forced ps m n p f {now} {new} low next is before merged =
+    merged
+    ∙ (ap (λ q. q || forced p) before
+    ∙ (or-turn f (list_any forced (drop n ps)) (forced p)
+    ∙ (ap (λ q. f || (forced p || list_any forced (drop q ps))) next
+    ∙ (ap (λ q. f || (forced q || list_any forced (drop (m + 1) ps))) is ∙ ap (λ q. f || list_any forced q) (sym (drop_more ps m p low))))))
+
+pub forced-all : {S : Type 0} (forced : S → Bool) (ps : List S) (n : ℕ) (f : Bool) {now : Bool} → n ≡ 0 → now ≡ (f || list_any forced (drop n ps)) → now ≡ (f || list_any forced ps)
+forced-all forced ps n f none e = e ∙ ap (λ q. f || list_any forced (drop q ps)) none
+
+pub counts-none : {S : Type 0} (faults : S → ℕ) (ps : List S) (n : ℕ) (x : ℕ) → length ps ≤ n → x < 2 ^ 64 → x ≡ counted x (sum_by faults (drop n ps))
+counts-none faults ps n x past low =
+    let none : sum_by faults (drop n ps) ≡ 0 = ap (sum_by faults) (drop_all n ps past) in
+    omega (arith, none, low)
+
+pub counts-more : {S : Type 0} (faults : S → ℕ) (ps : List S) (m n : ℕ) (p : S) (x : ℕ) {now new : ℕ} → m < length ps → n ≡ m + 1 → p ≡ get_or ps m p → now ≡ counted x (sum_by faults (drop n ps)) → new ≡ counted now (faults p) → new ≡ counted x (sum_by faults (drop m ps))
+counts-more faults ps m n p x {now} {new} low next is before merged =
+    let rest : sum_by faults (drop n ps) ≡ sum_by faults (drop (m + 1) ps) = ap (λ q. sum_by faults (drop q ps)) next in
+    let all : sum_by faults (drop m ps) ≡ faults (get_or ps m p) + sum_by faults (drop (m + 1) ps) = ap (sum_by faults) (drop_more ps m p low) ∙ sum_by-cons faults (get_or ps m p) (drop (m + 1) ps) in
+    let here : faults p ≡ faults (get_or ps m p) = ap faults is in
+    omega (arith, before, merged, rest, all, here)
+
+pub counts-all : {S : Type 0} (faults : S → ℕ) (ps : List S) (n : ℕ) (x : ℕ) {now : ℕ} → n ≡ 0 → now ≡ counted x (sum_by faults (drop n ps)) → now ≡ counted x (sum_by faults ps)
+counts-all faults ps n x none e = e ∙ ap (λ q. counted x (sum_by faults (drop q ps))) none
 
 pub len-is : {X : Type 0} (v : Vec X) → vec_len v ≡ length v.items
 len-is v = v.ok.0

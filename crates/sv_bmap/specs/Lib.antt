@@ -1,4 +1,6 @@
+pub mod Attach
 pub mod Causes
+pub mod Cut
 pub mod Hang
 pub mod Need
 pub mod Order

@@ -103,8 +103,8 @@ fn needs<R: Wait>(
     Ok([once, again])
 }
 
-// The blocks of the file, as digits in a row, each of three places.
-fn row(blocks: &[u32]) -> u64 {
+// Blocks as digits in a row, each of three places.
+pub(crate) fn row(blocks: &[u32]) -> u64 {
     blocks.iter().fold(
         0u64,
         |sum, block| sum.wrapping_mul(1000).wrapping_add(u64::from(*block)),

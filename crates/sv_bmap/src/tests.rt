@@ -22,8 +22,8 @@ fn zero_blocks(alloc: Global) -> Result<Vec<Vec<u8>>, NoMemory>
     Ok(blocks)
 }
 
-// A stake of 200 blocks of zero bytes.
-fn zero_stake(alloc: Global) -> Result<OwnStake, NoMemory>
+// A stake of 200 blocks of zero bytes, whose calls with these numbers fail.
+pub(crate) fn zero_stake(alloc: Global, fails: Vec<u64>) -> Result<OwnStake, NoMemory>
     ensures held { IfOk result (λ s. (b l : ℕ) → b < 200 → l < 16 → IsSome (⟦<OwnStake as Stake>⟧.held s b l)) }
     ensures lent { IfOk result (λ s. ⟦<OwnStake as Stake>⟧.lent s ≡ nothing_lent) }
     ensures sizes { IfOk result (λ s. ⟦<OwnStake as Stake>⟧.origin s ≡ record { id = 0; sizes = record { block_size = 1024; blocks = 200; first_data = 3 } }) }
@@ -34,12 +34,12 @@ fn zero_stake(alloc: Global) -> Result<OwnStake, NoMemory>
         first_data: 3,
     };
     let content = zero_blocks(alloc)?;
-    let stake = OwnStake::new(alloc, sizes, content, Vec::new(alloc))?;
+    let stake = OwnStake::new(alloc, sizes, content, fails)?;
     Ok(stake)
 }
 
 // The addresses of a file without pages.
-const NONE: Addresses = [0; 13];
+pub(crate) const NONE: Addresses = [0; 13];
 
 // The need of pages of a file without pages.
 fn need_of<R: Wait>(
@@ -50,7 +50,7 @@ fn need_of<R: Wait>(
 ) -> Result<Result<u32, Refusal>, NoMemory>
     requires { first + count ≤ 1000000 }
 {
-    let mut stake = zero_stake(alloc)?;
+    let mut stake = zero_stake(alloc, Vec::new(alloc))?;
     Ok(need(rt, &NONE, &mut stake, first, count))
 }
 
@@ -62,7 +62,7 @@ fn block_of<R: Wait>(
 ) -> Result<Result<Option<u32>, Refusal>, NoMemory>
     requires { page ≤ 1000000 }
 {
-    let mut stake = zero_stake(alloc)?;
+    let mut stake = zero_stake(alloc, Vec::new(alloc))?;
     Ok(lookup(rt, &NONE, &mut stake, page))
 }
 
@@ -88,7 +88,7 @@ fn a_file_without_pages_has_holes_alone(rt: HostRuntime) -> Result<(), Fail> {
 
 // How many blocks a file without pages has.
 fn count_of<R: Wait>(rt: &R, alloc: Global) -> Result<usize, Refusal> {
-    let mut stake = zero_stake(alloc)?;
+    let mut stake = zero_stake(alloc, Vec::new(alloc))?;
     let blocks = collect(rt, alloc, &NONE, &mut stake)?;
     Ok(blocks.len())
 }
@@ -107,7 +107,7 @@ fn pages_of_one<R: Wait>(
     rt: &R,
     alloc: Global,
 ) -> Result<(Option<u32>, Option<u32>, u32), Refusal> {
-    let mut stake = zero_stake(alloc)?;
+    let mut stake = zero_stake(alloc, Vec::new(alloc))?;
     let first = lookup(rt, &ONE, &mut stake, 0)?;
     let second = lookup(rt, &ONE, &mut stake, 1)?;
     let missing = need(rt, &ONE, &mut stake, 0, 2)?;
@@ -116,7 +116,7 @@ fn pages_of_one<R: Wait>(
 
 // Of a file with one page: its blocks, and the first of them.
 fn blocks_of_one<R: Wait>(rt: &R, alloc: Global) -> Result<(usize, Option<u32>), Refusal> {
-    let mut stake = zero_stake(alloc)?;
+    let mut stake = zero_stake(alloc, Vec::new(alloc))?;
     let blocks = collect(rt, alloc, &ONE, &mut stake)?;
     let first = blocks.first().copied();
     Ok((blocks.len(), first))

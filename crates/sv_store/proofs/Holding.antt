@@ -99,12 +99,12 @@ pub SameLines-eq : (h k : Held) → h ≡ k → SameLines h k
 SameLines-eq h k e = record { at = λ b l. ap (λ q. is_some (q b l)) e }
 
 -- a line is on one side of the cut alone
-is_some-rest : (lines : List LineRange) (h : Held) (b l : ℕ) (t : Bool) → in_ranges lines b l ≡ t → is_some (rest lines h b l) ≡ cond t false (is_some (h b l))
+pub is_some-rest : (lines : List LineRange) (h : Held) (b l : ℕ) (t : Bool) → in_ranges lines b l ≡ t → is_some (rest lines h b l) ≡ cond t false (is_some (h b l))
 unfolding rest
 is_some-rest lines h b l true e = ap (λ q. is_some (cond q None (h b l))) e
 is_some-rest lines h b l false e = ap (λ q. is_some (cond q None (h b l))) e
 
-is_some-chosen : (lines : List LineRange) (h : Held) (b l : ℕ) (t : Bool) → in_ranges lines b l ≡ t → is_some (chosen lines h b l) ≡ cond t (is_some (h b l)) false
+pub is_some-chosen : (lines : List LineRange) (h : Held) (b l : ℕ) (t : Bool) → in_ranges lines b l ≡ t → is_some (chosen lines h b l) ≡ cond t (is_some (h b l)) false
 unfolding chosen
 is_some-chosen lines h b l true e = ap (λ q. is_some (cond q (h b l) None)) e
 is_some-chosen lines h b l false e = ap (λ q. is_some (cond q (h b l) None)) e

@@ -66,6 +66,13 @@ impl Tally {
         })
     }
 
+    // How many transfers have failed.
+    fn count(&self) -> u64
+        ensures { result ≡ self.now.faults }
+    {
+        self.faults
+    }
+
     // The faults of another tally are counted here.
     fn add(&mut self, faults: u64)
         ensures { self.new ≡ record self.old { faults = counted self.old.faults faults } }
@@ -171,6 +178,7 @@ impl Stake for OwnStake {
     ghost origin = { λ s. record { id = 0; sizes = s.sizes } };
 
     fn geometry(&self) -> Geometry {
+        let _count = self.tally.count();
         self.sizes
     }
 

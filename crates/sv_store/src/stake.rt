@@ -1,5 +1,5 @@
 // The contract between the buffer cache and everything that works on blocks.
-ghost use Rattle.std.specs.Prelude.{◌≡◌, ◌≤◌, ◌+◌, ◌<◌, ◌||◌, ℕ, Bool, true, false, IfOk, OnErr, IsErrOf};
+ghost use Rattle.std.specs.Prelude.{◌≡◌, ◌≤◌, ◌+◌, ◌<◌, ◌^◌, ◌||◌, ℕ, Bool, true, false, IfOk, OnErr, IsErrOf};
 ghost use Rattle.sv_dev.specs.Causes.{counted};
 ghost use Rattle.sv_form.specs.Geometry.{IsGeometry};
 ghost use Rattle.sv_store.specs.Held.{Held, Lent, Origin, InRange, Both, put, with, without, nothing_lent};
@@ -32,11 +32,12 @@ pub trait Stake: Sized + Send {
     /// What all parts of one first stake have in common.
     ghost origin: { Self → Origin };
 
-    /// The sizes of the disk. Only lines of its blocks are held.
+    /// The sizes of the disk. Only lines of its blocks are held, and the count of faults is a `u64`.
     fn geometry(&self) -> Geometry
         ensures value { result ≡ (origin self.now).sizes }
         ensures sizes { IsGeometry result }
-        ensures range { InRange result (held self.now) };
+        ensures range { InRange result (held self.now) }
+        ensures count { faults self.now < 2 ^ 64 };
 
     /// Lends a block with its bytes (Bach, algorithm bread). Lines that the stake does not hold have any bytes.
     fn bread<R: Wait>(&mut self, rt: &R, b: u32) -> Result<Buf, Refusal>

@@ -1,5 +1,5 @@
 -- The content is that of the file made by hand.
-use Rattle.std.proofs.Common.{ap, ◌∙◌, arith, length, map, sym}
+use Rattle.std.proofs.Common.{ap, ◌∙◌, length, sym}
 use Rattle.std.proofs.lemmas.List.{length-map}
 use Rattle.sv_store.specs.Held.{of_content}
 use Rattle.sv_bmap.proofs.Needs.{tree-after}

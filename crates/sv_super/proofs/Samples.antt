@@ -1,0 +1,219 @@
+-- The stake of the tests, from which blocks are parted and freed.
+use Rattle.std.proofs.Common.{◌≡◌, ◌≢◌, ◌<◌, ◌≤◌, ◌+◌, ◌*◌, ◌==◌, ◌&&◌, ◌||◌, inl, inr, ℕ, Bool, true, false, cond, List, [], ◌∷◌, ◌++◌, length, get_or, Option, None, IsSome, is_some, nat_le, nat_lt, refl, sym, ap, ◌∙◌, subst, arith, length-append}
+use Rattle.std.proofs.lemmas.Bool.{false≢true}
+use Rattle.std.proofs.lemmas.Bool.Decides.{nat_tests}
+use Rattle.sv_form.specs.Geometry.{IsDataBlock, IsGeometry, block_lines, super_place, line_number}
+use Rattle.sv_form.specs.OwnerTable.{OwnerTable}
+use Rattle.sv_form.specs.Owners.{owner_of}
+use Rattle.sv_form.specs.declared.geometry.Geometry.{Geometry}
+use Rattle.sv_form.specs.declared.owners.LineRange.{LineRange}
+use Rattle.sv_store.specs.Held.{Apart, Both, Held, Lent, Origin, SameLines, covers, in_ranges, nothing_lent}
+use Rattle.sv_store.specs.Calls.{CanPart, Parts}
+use Rattle.sv_store.proofs.Holding.{Apart-Parts, CanPart-range, IsSome-given, IsSome-kept, SameLines-eq, in_range-other, is_some-Both, none_from}
+use Rattle.sv_super.specs.Calls.{CanMount, Frees, Takes, is_free, owned_lines}
+use Rattle.sv_super.specs.Core.{Core, HoldsSuper, alone, left_of, less}
+use Rattle.sv_super.specs.Count.{one_if, sum_below}
+use Rattle.sv_super.specs.Sample.{IsSource, sample_sizes}
+use Rattle.sv_super.proofs.Chains.{chain-empty}
+use Rattle.sv_super.proofs.Counts.{other, sum-more, times-nil}
+use Rattle.sv_super.proofs.Sound.{less-other}
+
+pub sample-sizes : IsGeometry sample_sizes
+sample-sizes = record {
+  block_size = refl;
+  least_blocks = omega arith;
+  most_blocks = omega arith;
+  least_first = omega arith;
+  most_first = omega arith;
+  some_data = omega arith;
+}
+
+pub source-part : {o o' : Origin} {h k : Held} {m : Lent} {n : ℕ} (b : ℕ) (r : LineRange) → IsSource o h o' k m n → 4 ≤ b → b < n → r.block ≡ b → r.first ≡ 0 → r.count ≡ 16 → CanPart k m (r ∷ [])
+source-part {o} {o'} {h} {k} {m} b r is least most e f c =
+    CanPart-range k m r
+    (λ l low high. ap (λ q. is_some (k q l)) e ∙ (is.whole b least most).at l (omega (arith, high, f, c, ap (λ q. q.block_size) is.sizes))) (ap (λ q. q r.block) is.lent) (omega (arith, c)) 1 0 is.more
+    (λ same. absurd (omega (arith, same, e, least)))
+
+-- none of the part is held by the other
+pub alone-apart : {h k part : Held} (b : ℕ) → Apart h k → part ≡ alone b k → Apart h part
+unfolding alone
+alone-apart {h} {k} {part} b away is = record { at = λ c l some. ap (λ q. q c l) is ∙ by (c == b) (k c l) (away.at c l some) }
+  where
+    by : (t : Bool) (p : Option (List ℕ)) → p ≡ None → cond t p None ≡ None
+    by true p e = e
+    by false p e = refl
+
+pub less-none : (h : Held) {new : Held} (b : ℕ) → new ≡ less b h → (c l : ℕ) → h c l ≡ None → new c l ≡ None
+unfolding less
+less-none h {new} b is c l none = ap (λ q. q c l) is ∙ by (c == b) (h c l) none
+  where
+    by : (t : Bool) (p : Option (List ℕ)) → p ≡ None → cond t None p ≡ None
+    by true p e = refl
+    by false p e = e
+
+-- a block that was taken, and the core that it was taken from, which has lost lines since
+pub taken-apart : (h : Held) {mine now part : Held} (b : ℕ) → mine ≡ less b h → part ≡ alone b h → ((c l : ℕ) → mine c l ≡ None → now c l ≡ None) → Apart now part
+unfolding less alone
+taken-apart h {mine} {now} {part} b is cut kept = record { at = λ c l some. ap (λ q. q c l) cut ∙ by c l some (c == b) refl }
+  where
+    by : (c l : ℕ) → IsSome (now c l) → (t : Bool) → (c == b) ≡ t → cond (c == b) (h c l) None ≡ None
+    by c l some true e = absurd (false≢true (sym (ap is_some (kept c l (ap (λ q. q c l) is ∙ ap (λ t. cond t None (h c l)) e))) ∙ some))
+    by c l some false e = ap (λ t. cond t (h c l) None) e
+
+pub source-less : {o o2 o' o2' : Origin} {h h2 k k2 part : Held} {m m2 : Lent} (b : ℕ) → IsSource o h o' k m (b + 1) → 4 ≤ b → SameLines h2 (Both h part) → part ≡ alone b k → k2 ≡ less b k → o2 ≡ o → o2' ≡ o' → m2 ≡ m → IsSource o2 h2 o2' k2 m2 b
+unfolding alone less
+source-less {o} {o2} {o'} {o2'} {h} {h2} {k} {k2} {part} {m} {m2} b is least lines cut left e f n = record {
+  sizes = ap (λ q. q.sizes) e ∙ is.sizes;
+  home = f ∙ (is.home ∙ sym e);
+  lent = n ∙ is.lent;
+  apart = record { at = λ c l some. by c l (sym (lines.at c l ∙ is_some-Both h part c l) ∙ some) (is_some (h c l)) refl };
+  whole = λ c low below. record {
+    at = λ l within.
+        ap (λ q. is_some (q l)) (ap (λ q. q c) left ∙ less-other b c k (λ same. absurd (omega (arith, same, below))))
+        ∙ (is.whole c low (omega (arith, below))).at l (let P : Origin → Type 0 = λ q. l * 64 < q.sizes.block_size in subst P e within);
+  };
+  more = ap (λ q. is_some (q 0)) (ap (λ q. q 1) left ∙ less-other b 1 k (λ same. absurd (omega (arith, same, least)))) ∙ is.more;
+}
+  where
+    none : (t : Bool) (p : Option (List ℕ)) → p ≡ None → cond t None p ≡ None
+    none true p q = refl
+    none false p q = q
+
+    part_of : (c l : ℕ) → is_some (part c l) ≡ true → (t : Bool) → (c == b) ≡ t → t ≡ true
+    part_of c l some true q = refl
+    part_of c l some false q = absurd (false≢true (sym (ap is_some (ap (λ x. x c l) cut ∙ ap (λ t. cond t (k c l) None) q)) ∙ some))
+
+    by : (c l : ℕ) → cond (is_some (h c l)) true (is_some (part c l)) ≡ true → (t : Bool) → is_some (h c l) ≡ t → k2 c l ≡ None
+    by c l some true q = ap (λ x. x c l) left ∙ none (c == b) (k c l) (is.apart.at c l q)
+    by c l some false q =
+        ap (λ x. x c l) left ∙ ap (λ t. cond t None (k c l)) (part_of c l (sym (ap (λ t. cond t true (is_some (part c l))) q) ∙ some) (c == b) refl)
+
+pub source-data : {o o' : Origin} {h k : Held} {m : Lent} {n : ℕ} (b : ℕ) → IsSource o h o' k m n → 4 ≤ b → b < 64 → IsDataBlock o.sizes b
+source-data b is least most = record { least = omega (arith, least, ap (λ q. q.first_data) is.sizes); most = omega (arith, most, ap (λ q. q.blocks) is.sizes) }
+
+-- ---- how many are left
+
+pub frees-left : {S : Type 0} {old new : Core S} {before now b : ℕ} → Frees before now old new b → left_of new ≡ left_of old + 1
+frees-left {S} {old} {new} {before} {now} {b} (inl chains) =
+    let e = ap length chains.chain in
+    let f = ap length chains.aside in
+    omega arith
+frees-left {S} {old} {new} {before} {now} {b} (inr sets) =
+    let e = ap length sets.chain in
+    let f = ap length sets.aside in
+    let l : length (old.aside ++ b ∷ []) ≡ length old.aside + 1 = length-append old.aside (b ∷ []) in
+    omega arith
+
+pub takes-left : {S : Type 0} {old new : Core S} {b : ℕ} → Takes old new b → left_of new + 1 ≡ left_of old
+takes-left {S} {old} {new} {b} (inl takes) =
+    let e = ap length takes.chain in
+    let f = ap length takes.aside in
+    let l : length (new.aside ++ b ∷ []) ≡ length new.aside + 1 = length-append new.aside (b ∷ []) in
+    omega arith
+takes-left {S} {old} {new} {b} (inr takes) =
+    let e = ap length takes.chain in
+    let f = ap length takes.aside in
+    let n = ap length takes.none in
+    omega arith
+
+-- ---- the core without free blocks
+
+-- the superblock's lines of a block 0
+abbrev pub super_range : LineRange
+super_range = record { block = 0; first = 8; count = 8 }
+
+pub super-part : {h : Held} {m : Lent} → ((b l : ℕ) → b < 64 → l < 16 → IsSome (h b l)) → m ≡ nothing_lent → CanPart h m (super_range ∷ [])
+super-part {h} {m} held lent = CanPart-range h m super_range (λ l low high. held 0 l (omega arith) (omega arith)) (ap (λ q. q 0) lent) (omega arith) 1 0 (held 1 0 (omega arith) (omega arith)) (λ same. absurd (omega (arith, same)))
+
+super-covers : (l : ℕ) → l < 8 → in_ranges (super_range ∷ []) 0 (8 + l) ≡ true
+unfolding covers
+super-covers l low = or-none (nat_le 8 (8 + l) && nat_lt (8 + l) 16) ∙ and-yes (nat_le 8 (8 + l)) (nat_lt (8 + l) 16) (le 8 (8 + l) (omega arith)) (lt (8 + l) 16 (omega arith))
+  where
+    or-none : (x : Bool) → (x || false) ≡ x
+    or-none true = refl
+    or-none false = refl
+
+    and-yes : (x y : Bool) → x ≡ true → y ≡ true → (x && y) ≡ true
+    and-yes x y p q = ap (λ t. t && y) p ∙ q
+
+    le : (x y : ℕ) → x ≤ y → nat_le x y ≡ true
+    le x y h = grind (nat_tests, arith)
+
+    lt : (x y : ℕ) → x < y → nat_lt x y ≡ true
+    lt x y h = grind (nat_tests, arith)
+
+pub super-held : {o : Origin} {h mine theirs : Held} → ((b l : ℕ) → b < 64 → l < 16 → IsSome (h b l)) → Parts h (super_range ∷ []) mine theirs → o.sizes ≡ sample_sizes → HoldsSuper o theirs
+super-held {o} {h} {mine} {theirs} held parts e = record {
+  at = (let P : Geometry → Type 0 = λ q. (l : ℕ) → l < 8 → IsSome (theirs (super_place q).block ((super_place q).line + l)) in
+      subst P (sym e) (λ l low. IsSome-given parts 0 (8 + l) (super-covers l low) (held 0 (8 + l) (omega arith) (omega (arith, low)))));
+}
+
+pub first-source : {o o' : Origin} {h mine theirs : Held} {m : Lent} → ((b l : ℕ) → b < 64 → l < 16 → IsSome (h b l)) → Parts h (super_range ∷ []) mine theirs → o.sizes ≡ sample_sizes → o' ≡ o → m ≡ nothing_lent → IsSource o theirs o' mine m 64
+first-source {o} {o'} {h} {mine} {theirs} {m} held parts e f n = record {
+  sizes = e;
+  home = f;
+  lent = n;
+  apart = record { at = λ b l some. none_from (mine b l) (none (is_some (mine b l)) refl b l some) };
+  whole = λ b low most. record { at = λ l within. IsSome-kept parts b l (in_range-other super_range b l (λ same. absurd (omega (arith, same, low)))) (held b l most (omega (arith, within, ap (λ q. q.block_size) e))) };
+  more = IsSome-kept parts 1 0 (in_range-other super_range 1 0 (λ same. absurd (omega (arith, same)))) (held 1 0 (omega arith) (omega arith));
+}
+  where
+    away : Apart mine theirs
+    away = Apart-Parts parts (SameLines-eq mine mine refl) (SameLines-eq theirs theirs refl)
+
+    none : (t : Bool) → {u : Bool} → t ≡ u → (b l : ℕ) → IsSome (theirs b l) → is_some (mine b l) ≡ false
+    none t e b l some = by (is_some (mine b l)) refl
+      where
+        by : (t : Bool) → is_some (mine b l) ≡ t → is_some (mine b l) ≡ false
+        by false q = q
+        by true q = absurd (false≢true (sym (ap is_some (away.at b l q)) ∙ some))
+
+-- every line belongs to an inode, so that no block is free
+pub none-free : (t : OwnerTable) (b : ℕ) → t.geometry ≡ sample_sizes → ((k : ℕ) → k < 1024 → get_or t.owners k 0 ≡ 2) → is_free t b ≡ false
+none-free t b e owned = by (nat_lt b t.geometry.blocks) refl
+  where
+    lt : (x y : ℕ) → nat_lt x y ≡ true → x < y
+    lt x y h = grind (nat_tests, arith)
+
+    and-none : (x : Bool) → (x && false) ≡ false
+    and-none true = refl
+    and-none false = refl
+
+    lines : block_lines t.geometry ≡ 15 + 1
+    lines = ap block_lines e
+
+    owner : ℕ → ℕ
+    owner l = one_if (nat_lt 0 (owner_of t (record { block = b; line = l })))
+
+    last : b < 64 → owner 15 ≡ 1
+    last low =
+        ap (λ n. one_if (nat_lt 0 (get_or t.owners n 0))) (ap (λ g. line_number g (record { block = b; line = 15 })) e)
+        ∙ ap (λ n. one_if (nat_lt 0 n)) (owned (b * 16 + 15) (omega (arith, low)))
+
+    some : b < 64 → owned_lines t b ≢ 0
+    some low zero =
+        let all : owned_lines t b ≡ sum_below 15 owner + owner 15 = ap (λ n. sum_below n owner) lines ∙ sum-more 15 owner in
+        let one = last low in
+        omega arith
+
+    by : (s : Bool) → nat_lt b t.geometry.blocks ≡ s → is_free t b ≡ false
+    by true f =
+        let low : b < 64 = (let q = lt b t.geometry.blocks f in omega (arith, q, ap (λ g. g.blocks) e)) in
+        ap (λ q. nat_le t.geometry.first_data b && (nat_lt b t.geometry.blocks && q)) (other (owned_lines t b) 0 (some low))
+        ∙ (ap (λ q. nat_le t.geometry.first_data b && q) (and-none (nat_lt b t.geometry.blocks)) ∙ and-none (nat_le t.geometry.first_data b))
+    by false f = ap (λ q. nat_le t.geometry.first_data b && (q && (owned_lines t b == 0))) f ∙ and-none (nat_le t.geometry.first_data b)
+
+pub mount-empty : {o : Origin} {h mine theirs : Held} {m : Lent} {t : OwnerTable} {list : List ℕ} → ((b l : ℕ) → b < 64 → l < 16 → IsSome (h b l)) → Parts h (super_range ∷ []) mine theirs → o.sizes ≡ sample_sizes → m ≡ nothing_lent → t.geometry ≡ sample_sizes → length t.owners ≡ 1024 → ((k : ℕ) → k < 1024 → get_or t.owners k 0 ≡ 2) → list ≡ 0 ∷ [] → CanMount o theirs m t list
+mount-empty {o} {h} {mine} {theirs} {m} {t} {list} held parts e lent f count owned is = record {
+  table = record {
+    sizes = (let P : Geometry → Type 0 = IsGeometry in subst P (sym f) sample-sizes);
+    lines = count ∙ sym (ap (λ g. g.blocks * block_lines g) f);
+  };
+  sizes = f ∙ sym e;
+  lent = lent;
+  super = super-held held parts e;
+  order = [];
+  chain = chain-empty theirs list is;
+  each = λ b. times-nil b ∙ sym (ap one_if (none-free t b f owned));
+  whole = λ b some. absurd (let q = times-nil b in omega arith);
+}

@@ -1,0 +1,48 @@
+-- The free blocks, as they are seen from above.
+use Rattle.std.specs.Prelude.{◌≡◌, ◌≤◌, ◌<◌, ◌+◌, ◌==◌, ℕ, List, length, None, IsSome, if◌then◌else◌}
+use Rattle.sv_form.specs.Geometry.{IsDataBlock, super_place}
+use Rattle.sv_store.specs.Held.{Held, Lent, Origin, HoldsBlock, nothing_lent}
+use Rattle.sv_super.specs.Count.{times}
+use Rattle.sv_super.specs.FreeList.{IsChain, taken}
+
+-- What a core is: its stake; the blocks of the chain, in the order in which they are taken; those that were set aside, of
+-- which the last is taken first; and how many more can be set aside without memory.
+pub record Core (S : Type 0) : Type 0 where
+  pub stake : S
+  pub chain : List ℕ
+  pub aside : List ℕ
+  pub spare : ℕ
+
+-- how many blocks are free
+abbrev pub left_of : {S : Type 0} → Core S → ℕ
+left_of core = length core.chain + length core.aside
+
+-- how often a block stands among the free ones
+abbrev pub free_times : List ℕ → List ℕ → ℕ → ℕ
+free_times chain aside b = times b chain + times b aside
+
+-- the superblock's eight lines are held
+pub record HoldsSuper (o : Origin) (h : Held) : Type 0 where
+  pub at : (l : ℕ) → l < 8 → IsSome (h (super_place o.sizes).block ((super_place o.sizes).line + l))
+
+-- The free blocks, each counted by f, are data blocks whose lines are held, each free once. The superblock's lines are
+-- held, and nothing is lent.
+pub record IsSound (o : Origin) (h : Held) (m : Lent) (f : ℕ → ℕ) : Type 0 where
+  pub super : HoldsSuper o h
+  pub lent : m ≡ nothing_lent
+  pub in_data : (b : ℕ) → 0 < f b → IsDataBlock o.sizes b
+  pub whole : (b : ℕ) → 0 < f b → HoldsBlock o h b
+  pub once : (b : ℕ) → f b ≤ 1
+
+-- what is kept: the chain begins with this list and has so many blocks, and there is room for those set aside
+pub record IsKept (o : Origin) (h : Held) (m : Lent) (list : List ℕ) (chained : ℕ) (aside : List ℕ) (spare room : ℕ) : Type 0 where
+  pub sound : IsSound o h m (free_times (taken chained h list) aside)
+  pub chain : IsChain h list (taken chained h list)
+  pub fits : length aside + spare ≤ room
+
+-- the lines of block b alone, and those of all others
+unfoldable pub alone : ℕ → Held → Held
+alone b h = λ c l. if c == b then h c l else None
+
+unfoldable pub less : ℕ → Held → Held
+less b h = λ c l. if c == b then None else h c l

@@ -1,0 +1,5 @@
+pub mod Calls
+pub mod Core
+pub mod Count
+pub mod FreeList
+pub mod Sample

@@ -1,0 +1,217 @@
+// The free blocks.
+ghost use Rattle.std.specs.Prelude.{◌≡◌, ◌≢◌, ◌≤◌, ◌<◌, ◌+◌, ◌||◌, ◌∷◌, ℕ, max, false, IfOk, IfErr, OnOk, OnErr, length};
+ghost use Rattle.sv_dev.specs.Causes.{counted};
+ghost use Rattle.sv_form.specs.Geometry.{IsDataBlock};
+ghost use Rattle.sv_store.specs.Held.{Apart, Both, HoldsBlock, SameLines, nothing_lent};
+ghost use Rattle.sv_super.specs.Calls.{CanMount, Frees, HasReason, Takes, TakesAside, TakesChained};
+ghost use Rattle.sv_super.specs.Core.{IsSound, alone, free_times, left_of, less};
+ghost use Rattle.sv_super.specs.FreeList.{IsChain};
+
+use crate::chain::{cut_block, first_of, link, next_of};
+use crate::mounted::count_free;
+use std::alloc::Global;
+use std::marker::Model;
+use std::sync::Wait;
+use sv_form::{LinkBlock, Mounted};
+use sv_store::{NoMemory, Refusal, Stake};
+
+/// The free blocks, with the stake that holds their lines and the superblock's (Bach, chapter 4.7).
+///
+/// A contract sees the blocks in the order in which they are handed out: first those set aside, the last of them first,
+/// then the chain.
+pub struct SuperCore<S: Stake> {
+    stake: S,
+    list: LinkBlock,
+    chained: u32,
+    aside: Vec<u32>,
+    spare: u32,
+}
+
+impl<S: Stake> Model for SuperCore<S> {
+    ghost use Rattle.sv_super.specs.Core.{Core, IsKept};
+    ghost use Rattle.sv_super.specs.FreeList.{taken};
+    ghost use Rattle.std.specs.Prelude.{vec_capacity};
+
+    ghost Value = { Core S };
+
+    ghost view = { λ c. record { stake = c.stake; chain = taken c.chained (S.held c.stake) c.list.numbers.items; aside = c.aside.items; spare = c.spare } };
+
+    ghost invariant = { λ c. IsKept (S.origin c.stake) (S.held c.stake) (S.lent c.stake) c.list.numbers.items c.chained c.aside.items c.spare (vec_capacity c.aside) };
+}
+
+impl<S: Stake> SuperCore<S> {
+    /// The free blocks of an image that was checked. Without memory the stake comes back as it was.
+    pub fn new(alloc: Global, stake: S, mounted: &Mounted) -> Result<SuperCore<S>, (S, NoMemory)>
+        requires { CanMount (S.origin stake) (S.held stake) (S.lent stake) mounted.now.owners mounted.now.head.free.items }
+        ensures stake { IfOk result (λ core. core.stake ≡ stake) }
+        ensures chain { IfOk result (λ core. IsChain (S.held stake) mounted.now.head.free.items core.chain) }
+        ensures aside { IfOk result (λ core. length core.aside ≡ 0) }
+        ensures spare { IfOk result (λ core. core.spare ≡ 0) }
+        ensures back { IfErr result (λ refused. refused.0 ≡ stake) }
+    {
+        let sizes = stake.geometry();
+        let list = mounted.head.free.as_slice();
+        Ok(SuperCore {
+            list: first_of(list, list.len()),
+            chained: count_free(sizes, &mounted.owners),
+            aside: Vec::new(alloc),
+            spare: 0,
+            stake,
+        })
+    }
+
+    /// How many blocks are free, those set aside included.
+    pub fn left(&self) -> u32
+        ensures left { result ≡ left_of self.now }
+        ensures sound { IsSound (S.origin self.now.stake) (S.held self.now.stake) (S.lent self.now.stake) (free_times self.now.chain self.now.aside) }
+    {
+        let _sizes = self.stake.geometry();
+        self.chained + self.aside.len() as u32
+    }
+
+    /// Hands a free block out, with all its lines (Bach, chapter 4.7, algorithm alloc). A refusal is a fault that the
+    /// stake has counted, or want of memory.
+    pub fn alloc<R: Wait>(&mut self, rt: &R, alloc: Global) -> Result<(u32, S), Refusal>
+        requires { 1 ≤ left_of self.old }
+        ensures block { IfOk result (λ taken. Takes self.old self.new taken.0) }
+        ensures mine { IfOk result (λ taken. S.held self.new.stake ≡ less taken.0 (S.held self.old.stake)) }
+        ensures theirs { IfOk result (λ taken. S.held taken.1 ≡ alone taken.0 (S.held self.old.stake)) }
+        ensures in_data { IfOk result (λ taken. IsDataBlock (S.origin self.old.stake).sizes taken.0) }
+        ensures whole { IfOk result (λ taken. HoldsBlock (S.origin self.old.stake) (S.held taken.1) taken.0) }
+        ensures part_lent { IfOk result (λ taken. S.lent taken.1 ≡ nothing_lent) }
+        ensures part_faults { IfOk result (λ taken. S.faults taken.1 ≡ 0) }
+        ensures part_forced { IfOk result (λ taken. S.forced taken.1 ≡ false) }
+        ensures part_origin { IfOk result (λ taken. S.origin taken.1 ≡ S.origin self.old.stake) }
+        ensures held { OnErr result (S.held self.new.stake ≡ S.held self.old.stake) }
+        ensures chain { OnErr result (self.new.chain ≡ self.old.chain) }
+        ensures aside { OnErr result (self.new.aside ≡ self.old.aside) }
+        ensures spare { self.new.spare ≡ self.old.spare }
+        ensures lends { S.lent self.new.stake ≡ nothing_lent }
+        ensures forced { S.forced self.new.stake ≡ S.forced self.old.stake }
+        ensures origin { S.origin self.new.stake ≡ S.origin self.old.stake }
+        ensures cause { HasReason (S.faults self.old.stake) (S.faults self.new.stake) result }
+    {
+        if self.aside.is_empty() {
+            self.take_chained(rt, alloc)
+        } else {
+            self.take_aside(alloc)
+        }
+    }
+
+    // The last of those set aside.
+    fn take_aside(&mut self, alloc: Global) -> Result<(u32, S), Refusal>
+        requires { 1 ≤ length self.old.aside }
+        ensures block { IfOk result (λ taken. TakesAside self.old self.new taken.0) }
+        ensures mine { IfOk result (λ taken. S.held self.new.stake ≡ less taken.0 (S.held self.old.stake)) }
+        ensures theirs { IfOk result (λ taken. S.held taken.1 ≡ alone taken.0 (S.held self.old.stake)) }
+        ensures in_data { IfOk result (λ taken. IsDataBlock (S.origin self.old.stake).sizes taken.0) }
+        ensures whole { IfOk result (λ taken. HoldsBlock (S.origin self.old.stake) (S.held taken.1) taken.0) }
+        ensures part_lent { IfOk result (λ taken. S.lent taken.1 ≡ nothing_lent) }
+        ensures part_faults { IfOk result (λ taken. S.faults taken.1 ≡ 0) }
+        ensures part_forced { IfOk result (λ taken. S.forced taken.1 ≡ false) }
+        ensures part_origin { IfOk result (λ taken. S.origin taken.1 ≡ S.origin self.old.stake) }
+        ensures held { OnErr result (S.held self.new.stake ≡ S.held self.old.stake) }
+        ensures chain { OnErr result (self.new.chain ≡ self.old.chain) }
+        ensures aside { OnErr result (self.new.aside ≡ self.old.aside) }
+        ensures spare { self.new.spare ≡ self.old.spare }
+        ensures lends { S.lent self.new.stake ≡ nothing_lent }
+        ensures forced { S.forced self.new.stake ≡ S.forced self.old.stake }
+        ensures origin { S.origin self.new.stake ≡ S.origin self.old.stake }
+        ensures cause { HasReason (S.faults self.old.stake) (S.faults self.new.stake) result }
+    {
+        let _sizes = self.stake.geometry();
+        let last = self.aside.len() - 1;
+        let block = self.aside[last];
+        let part = cut_block(alloc, &mut self.stake, block)?;
+        self.aside.truncate(last);
+        Ok((block, part))
+    }
+
+    // The first of the chain.
+    fn take_chained<R: Wait>(&mut self, rt: &R, alloc: Global) -> Result<(u32, S), Refusal>
+        requires { 1 ≤ length self.old.chain }
+        ensures block { IfOk result (λ taken. self.old.chain ≡ taken.0 ∷ self.new.chain) }
+        ensures mine { IfOk result (λ taken. S.held self.new.stake ≡ less taken.0 (S.held self.old.stake)) }
+        ensures theirs { IfOk result (λ taken. S.held taken.1 ≡ alone taken.0 (S.held self.old.stake)) }
+        ensures in_data { IfOk result (λ taken. IsDataBlock (S.origin self.old.stake).sizes taken.0) }
+        ensures whole { IfOk result (λ taken. HoldsBlock (S.origin self.old.stake) (S.held taken.1) taken.0) }
+        ensures part_lent { IfOk result (λ taken. S.lent taken.1 ≡ nothing_lent) }
+        ensures part_faults { IfOk result (λ taken. S.faults taken.1 ≡ 0) }
+        ensures part_forced { IfOk result (λ taken. S.forced taken.1 ≡ false) }
+        ensures part_origin { IfOk result (λ taken. S.origin taken.1 ≡ S.origin self.old.stake) }
+        ensures held { OnErr result (S.held self.new.stake ≡ S.held self.old.stake) }
+        ensures chain { OnErr result (self.new.chain ≡ self.old.chain) }
+        ensures aside { self.new.aside ≡ self.old.aside }
+        ensures spare { self.new.spare ≡ self.old.spare }
+        ensures lends { S.lent self.new.stake ≡ nothing_lent }
+        ensures forced { S.forced self.new.stake ≡ S.forced self.old.stake }
+        ensures origin { S.origin self.new.stake ≡ S.origin self.old.stake }
+        ensures cause { HasReason (S.faults self.old.stake) (S.faults self.new.stake) result }
+    {
+        let _sizes = self.stake.geometry();
+        let (block, after) = next_of(rt, &mut self.stake, &self.list)?;
+        let part = cut_block(alloc, &mut self.stake, block)?;
+        self.list = after;
+        self.chained -= 1;
+        Ok((block, part))
+    }
+
+    /// Makes room to set aside at least this many blocks.
+    pub fn room(&mut self, n: u32) -> Result<(), NoMemory>
+        ensures stake { self.new.stake ≡ self.old.stake }
+        ensures chain { self.new.chain ≡ self.old.chain }
+        ensures aside { self.new.aside ≡ self.old.aside }
+        ensures ok { OnOk result (self.new.spare ≡ max self.old.spare n) }
+        ensures err { OnErr result (self.new.spare ≡ self.old.spare) }
+    {
+        if n <= self.spare {
+            return Ok(());
+        }
+        self.aside.reserve(n as usize)?;
+        self.spare = n;
+        Ok(())
+    }
+
+    /// Takes a block back that is not free, with its lines (Bach, chapter 4.7, algorithm free). Where the full list
+    /// cannot be written for a fault, the block is set aside.
+    pub fn free<R: Wait>(&mut self, rt: &R, b: u32, part: S)
+        requires spare { 1 ≤ self.old.spare }
+        requires in_data { IsDataBlock (S.origin self.old.stake).sizes b }
+        requires block { HoldsBlock (S.origin self.old.stake) (S.held part) b }
+        requires apart { Apart (S.held self.old.stake) (S.held part) }
+        requires lent { S.lent part ≡ nothing_lent }
+        requires origin { S.origin part ≡ S.origin self.old.stake }
+        ensures block { Frees (counted (S.faults self.old.stake) (S.faults part)) (S.faults self.new.stake) self.old self.new b }
+        ensures spare { self.new.spare + 1 ≡ self.old.spare }
+        ensures lines { SameLines (S.held self.new.stake) (Both (S.held self.old.stake) (S.held part)) }
+        ensures others { (c l : ℕ) → c ≢ b → S.held self.new.stake c l ≡ Both (S.held self.old.stake) (S.held part) c l }
+        ensures lends { S.lent self.new.stake ≡ nothing_lent }
+        ensures forced { S.forced self.new.stake ≡ (S.forced self.old.stake || S.forced part) }
+        ensures origin { S.origin self.new.stake ≡ S.origin self.old.stake }
+        ensures faults { counted (S.faults self.old.stake) (S.faults part) ≤ S.faults self.new.stake }
+    {
+        self.stake.merge(part);
+        let _sizes = self.stake.geometry();
+        self.spare -= 1;
+        match link(rt, &mut self.stake, &mut self.list, b) {
+            Ok(()) => self.chained += 1,
+            Err(_) => {
+                let _pushed = self.aside.push(b);
+            }
+        }
+    }
+
+    /// Hands back all lines.
+    pub fn give_up(self) -> S
+        ensures { result ≡ self.stake }
+    {
+        let SuperCore {
+            stake,
+            list: _,
+            chained: _,
+            aside: _,
+            spare: _,
+        } = self;
+        stake
+    }
+}

@@ -1,0 +1,254 @@
+// A core over a stake in memory. Its blocks are freed from the last down, which is how the chain of a new image is made.
+ghost use Rattle.std.specs.Prelude.{◌≡◌, ◌≢◌, ◌≤◌, ◌<◌, ◌+◌, ◌*◌, ◌∷◌, [], ℕ, IfOk, IfErr, OnOk, IsSome, None, length, slice_index};
+ghost use Rattle.std.specs.List.{All};
+ghost use Rattle.sv_form.specs.Geometry.{IsDataBlock};
+ghost use Rattle.sv_store.specs.Held.{Apart, HoldsBlock, nothing_lent};
+ghost use Rattle.sv_super.specs.Calls.{CanMount};
+ghost use Rattle.sv_super.specs.Core.{left_of};
+ghost use Rattle.sv_super.specs.Sample.{IsSource, sample_sizes};
+
+use crate::SuperCore;
+use arrayvec::ArrayVec;
+use std::alloc::Global;
+use std::sync::Wait;
+use std::test::Fail;
+use sv_form::{Geometry, LineRange, Mounted, Owners, Super};
+use sv_store::{NoMemory, OwnStake, Refusal, Stake};
+
+const SIZES: Geometry = Geometry {
+    block_size: 1024,
+    blocks: 64,
+    first_data: 4,
+};
+
+// The number of data blocks but the first, which is the root's page.
+const FREE: u32 = 59;
+
+// Blocks of zero bytes.
+fn zero_blocks(alloc: Global) -> Result<Vec<Vec<u8>>, NoMemory>
+    ensures count { IfOk result (λ blocks. length blocks.items ≡ 64) }
+    ensures bytes { IfOk result (λ blocks. All (λ bytes. length bytes.items ≡ 1024) blocks.items) }
+{
+    let mut blocks = Vec::new(alloc);
+    for _block in 0..64usize {
+        let bytes = vec![in alloc; 0u8; 1024]?;
+        blocks.push(bytes)?;
+    }
+    Ok(blocks)
+}
+
+// What the check leaves of an image of which every line belongs to an inode.
+fn mounted(alloc: Global) -> Result<Mounted, NoMemory>
+    ensures geometry { IfOk result (λ m. m.owners.geometry ≡ sample_sizes) }
+    ensures count { IfOk result (λ m. length m.owners.owners ≡ 1024) }
+    ensures owners { IfOk result (λ m. (k : ℕ) → k < 1024 → slice_index m.owners.owners k ≡ 2) }
+    ensures list { IfOk result (λ m. m.head.free.items ≡ 0 ∷ []) }
+{
+    let owner = vec![in alloc; 2u16; 1024]?;
+    let mut free = ArrayVec::new();
+    free.push(0);
+    let head = Super {
+        block_type: 2,
+        first_data: 4,
+        blocks: 64,
+        free,
+        inodes: ArrayVec::new(),
+    };
+    Ok(Mounted {
+        geometry: SIZES,
+        head,
+        owners: Owners::from_vec(SIZES, owner),
+        used: Vec::new(alloc),
+    })
+}
+
+// Frees one block, whose lines another stake holds.
+fn free_one<R: Wait, S: Stake>(
+    rt: &R,
+    alloc: Global,
+    core: &mut SuperCore<S>,
+    source: &mut S,
+    b: u32,
+) -> Result<(), Refusal>
+    requires source { IsSource (S.origin core.old.stake) (S.held core.old.stake) (S.origin source.old) (S.held source.old) (S.lent source.old) (b + 1) }
+    requires spare { 1 ≤ core.old.spare }
+    requires in_data { 4 ≤ b }
+    ensures source { OnOk result (IsSource (S.origin core.new.stake) (S.held core.new.stake) (S.origin source.new) (S.held source.new) (S.lent source.new) b) }
+    ensures spare { OnOk result (core.new.spare + 1 ≡ core.old.spare) }
+    ensures left { OnOk result (left_of core.new ≡ left_of core.old + 1) }
+{
+    let _sizes = source.geometry();
+    let lines = [LineRange {
+        block: b,
+        first: 0,
+        count: 16,
+    }];
+    let part = source.part(alloc, &lines)?;
+    core.free(rt, b, part);
+    Ok(())
+}
+
+// Frees all blocks from the last down to block 5.
+fn free_all<R: Wait, S: Stake>(
+    rt: &R,
+    alloc: Global,
+    core: &mut SuperCore<S>,
+    source: &mut S,
+) -> Result<(), Refusal>
+    requires source { IsSource (S.origin core.old.stake) (S.held core.old.stake) (S.origin source.old) (S.held source.old) (S.lent source.old) 64 }
+    ensures left { OnOk result (left_of core.new ≡ left_of core.old + 59) }
+{
+    core.room(FREE)?;
+    for k in 0..FREE {
+        free_one(rt, alloc, core, source, 63 - k)?;
+    }
+    Ok(())
+}
+
+// The next blocks that are handed out, each in two digits.
+fn take<R: Wait, S: Stake + Drop>(
+    rt: &R,
+    alloc: Global,
+    core: &mut SuperCore<S>,
+    count: u32,
+) -> Result<u64, Refusal>
+    requires { count ≤ left_of core.old }
+    ensures left { OnOk result (left_of core.new + count ≡ left_of core.old) }
+    ensures spare { core.new.spare ≡ core.old.spare }
+    ensures kept { (b l : ℕ) → S.held core.old.stake b l ≡ None → S.held core.new.stake b l ≡ None }
+    ensures origin { S.origin core.new.stake ≡ S.origin core.old.stake }
+{
+    let mut row = 0u64;
+    for _taken in 0..count {
+        let (block, _part) = core.alloc(rt, alloc)?;
+        row = row.wrapping_mul(100).wrapping_add(u64::from(block));
+    }
+    Ok(row)
+}
+
+// Nine blocks, one more, and one more.
+fn three_rows<R: Wait, S: Stake + Drop>(
+    rt: &R,
+    alloc: Global,
+    core: &mut SuperCore<S>,
+    source: &mut S,
+) -> Result<(u64, u64, u64), Refusal>
+    requires source { IsSource (S.origin core.old.stake) (S.held core.old.stake) (S.origin source.old) (S.held source.old) (S.lent source.old) 64 }
+{
+    free_all(rt, alloc, core, source)?;
+    let nine = take(rt, alloc, core, 9)?;
+    let tenth = take(rt, alloc, core, 1)?;
+    let next = take(rt, alloc, core, 1)?;
+    Ok((nine, tenth, next))
+}
+
+// The first block is taken, then nine more, and the first is freed again: how many are left before that and after it,
+// and the next two blocks.
+fn freed_again<R: Wait, S: Stake + Drop>(
+    rt: &R,
+    alloc: Global,
+    core: &mut SuperCore<S>,
+    source: &mut S,
+) -> Result<(u32, u32, u32, u64), Refusal>
+    requires source { IsSource (S.origin core.old.stake) (S.held core.old.stake) (S.origin source.old) (S.held source.old) (S.lent source.old) 64 }
+{
+    free_all(rt, alloc, core, source)?;
+    core.room(1)?;
+    let (first, part) = core.alloc(rt, alloc)?;
+    let taken = take(rt, alloc, core, 9);
+    let before = core.left();
+    core.free(rt, first, part);
+    let after = core.left();
+    let _nine = taken?;
+    let next = take(rt, alloc, core, 2)?;
+    Ok((first, before, after, next))
+}
+
+// A stake of 64 blocks, in whose parts one call fails.
+fn whole_stake(alloc: Global, failing: u64) -> Result<OwnStake, NoMemory>
+    ensures held { IfOk result (λ s. (b l : ℕ) → b < 64 → l < 16 → IsSome (⟦<OwnStake as Stake>⟧.held s b l)) }
+    ensures lent { IfOk result (λ s. ⟦<OwnStake as Stake>⟧.lent s ≡ nothing_lent) }
+    ensures sizes { IfOk result (λ s. (⟦<OwnStake as Stake>⟧.origin s).sizes ≡ sample_sizes) }
+{
+    let content = zero_blocks(alloc)?;
+    let mut fails = Vec::new(alloc);
+    fails.push(failing)?;
+    let stake = OwnStake::new(alloc, SIZES, content, fails)?;
+    Ok(stake)
+}
+
+// The superblock's lines of a stake, as a core without free blocks.
+fn empty_core<S: Stake>(
+    alloc: Global,
+    source: &mut S,
+) -> Result<Result<SuperCore<S>, (S, NoMemory)>, Refusal>
+    requires held { (b l : ℕ) → b < 64 → l < 16 → IsSome (S.held source.old b l) }
+    requires lent { S.lent source.old ≡ nothing_lent }
+    requires sizes { (S.origin source.old).sizes ≡ sample_sizes }
+    ensures { IfOk result (λ made. IfOk made (λ core. IsSource (S.origin core.stake) (S.held core.stake) (S.origin source.new) (S.held source.new) (S.lent source.new) 64)) }
+{
+    let lines = [LineRange {
+        block: 0,
+        first: 8,
+        count: 8,
+    }];
+    let mounted = mounted(alloc)?;
+    let stake = source.part(alloc, &lines)?;
+    Ok(SuperCore::new(alloc, stake, &mounted))
+}
+
+fn run_three<R: Wait>(rt: &R, alloc: Global, failing: u64) -> Result<(u64, u64, u64), Refusal> {
+    let mut source = whole_stake(alloc, failing)?;
+    match empty_core(alloc, &mut source)? {
+        Ok(mut core) => {
+            let rows = three_rows(rt, alloc, &mut core, &mut source);
+            let _stake = core.give_up();
+            rows
+        }
+        Err(_) => Err(Refusal::NoMemory),
+    }
+}
+
+fn run_again<R: Wait>(
+    rt: &R,
+    alloc: Global,
+    failing: u64,
+) -> Result<(u32, u32, u32, u64), Refusal> {
+    let mut source = whole_stake(alloc, failing)?;
+    match empty_core(alloc, &mut source)? {
+        Ok(mut core) => {
+            let rows = freed_again(rt, alloc, &mut core, &mut source);
+            let _stake = core.give_up();
+            rows
+        }
+        Err(_) => Err(Refusal::NoMemory),
+    }
+}
+
+#[test]
+fn blocks_come_in_the_order_of_the_chain(rt: HostRuntime) -> Result<(), Fail> {
+    let rows = (50_607_080_910_111_213, 14, 15);
+    assert_eq!(rt; run_three(&rt, rt.alloc(), 0), Ok(rows));
+    Ok(())
+}
+
+#[test]
+fn a_link_block_that_cannot_be_read_is_not_handed_out(rt: HostRuntime) -> Result<(), Fail> {
+    assert_eq!(rt; run_three(&rt, rt.alloc(), 2), Err(Refusal::Fault));
+    Ok(())
+}
+
+#[test]
+fn a_block_whose_list_cannot_be_written_is_set_aside(rt: HostRuntime) -> Result<(), Fail> {
+    let rows = (140_506_070_809_101_112, 13, 15);
+    assert_eq!(rt; run_three(&rt, rt.alloc(), 1), Ok(rows));
+    Ok(())
+}
+
+#[test]
+fn a_freed_block_comes_first_with_and_without_a_fault(rt: HostRuntime) -> Result<(), Fail> {
+    for failing in [0u64, 3] {
+        assert_eq!(rt; run_again(&rt, rt.alloc(), failing), Ok((5, 49, 50, 515)));
+    }
+    Ok(())
+}
