@@ -1,5 +1,5 @@
 -- The references with which processes begin.
-use Rattle.std.proofs.Common.{◌≡◌, ◌≢◌, ◌<◌, ◌≤◌, ℕ, zero, suc, ◌+◌, ◌-◌, ◌==◌, Bool, true, false, not, cond, nat_le, if◌then◌else◌, Some, None, sym, refl, ap, ◌∙◌, arith}
+use Rattle.std.proofs.Common.{◌≡◌, ◌≢◌, ◌<◌, ℕ, zero, suc, ◌+◌, ◌-◌, ◌==◌, true, false, not, cond, nat_le, if◌then◌else◌, Some, None, sym, refl, ap, ◌∙◌, arith}
 use Rattle.std.specs.Ordering.{eq_by_cmp, is_eq}
 use Rattle.std.specs.Cmp.{Equal-is, tied_itself}
 use Rattle.std.specs.FinMap as map
@@ -34,32 +34,32 @@ none_yet (suc k) j h =
 pub one_more_process : (k : ℕ) → map.insert (first_references k) (k + 1, 2) 2 ≡ first_references (k + 1)
 one_more_process k = (let e : k + 1 ≡ suc k = omega arith in (λ i. map.insert (first_references k) (e i, 2) 2) ∙ sym (ap first_references e))
 
--- ---- two references to the root, one after the other
+-- ---- two references to an inode that has none, one after the other
 
-module _ (fs : Fs) (p : ℕ) (none : map.get fs.references (p, 2) ≡ None) where
-  first : one_more fs p 2 ≡ map.insert fs.references (p, 2) 1
-  first = ap (λ o. map.insert fs.references (p, 2) (at_or_0 (λ n. n) o + 1)) none
+module _ (fs : Fs) (p i : ℕ) (none : map.get fs.references (p, i) ≡ None) where
+  first : one_more fs p i ≡ map.insert fs.references (p, i) 1
+  first = ap (λ o. map.insert fs.references (p, i) (at_or_0 (λ n. n) o + 1)) none
 
-  gotten : map.get (map.insert fs.references (p, 2) 1) (p, 2) ≡ Some 1
-  gotten = map.get-insert pair_cmp_total fs.references (p, 2) 1 (p, 2) ∙ ap (λ o. cond (is_eq o) (Some 1) (map.get fs.references (p, 2))) (tied_itself pair_cmp_total (p, 2))
+  gotten : map.get (map.insert fs.references (p, i) 1) (p, i) ≡ Some 1
+  gotten = map.get-insert pair_cmp_total fs.references (p, i) 1 (p, i) ∙ ap (λ o. cond (is_eq o) (Some 1) (map.get fs.references (p, i))) (tied_itself pair_cmp_total (p, i))
 
-  pub two-added : with_reference (with_reference fs p 2) p 2 ≡ record fs { references = map.insert fs.references (p, 2) 2 }
+  pub two-added : with_reference (with_reference fs p i) p i ≡ record fs { references = map.insert fs.references (p, i) 2 }
   two-added =
       ap (λ m. record fs { references = m })
-      (ap (λ m. map.insert m (p, 2) (at_or_0 (λ n. n) (map.get m (p, 2)) + 1)) first
-      ∙ ap (λ o. map.insert (map.insert fs.references (p, 2) 1) (p, 2) (at_or_0 (λ n. n) o + 1)) gotten
-      ∙ insert-insert pair_cmp_total pair_cmp-IsAntisymmetric fs.references (p, 2) 1 2)
+      (ap (λ m. map.insert m (p, i) (at_or_0 (λ n. n) (map.get m (p, i)) + 1)) first
+      ∙ ap (λ o. map.insert (map.insert fs.references (p, i) 1) (p, i) (at_or_0 (λ n. n) o + 1)) gotten
+      ∙ insert-insert pair_cmp_total pair_cmp-IsAntisymmetric fs.references (p, i) 1 2)
 
-  pub one-there : has_reference (with_reference fs p 2) p 2 ≡ true
-  one-there = ap (λ m. not (at_or_0 (λ n. n) (map.get m (p, 2)) == 0)) first ∙ ap (λ o. not (at_or_0 (λ n. n) o == 0)) gotten
+  pub one-there : has_reference (with_reference fs p i) p i ≡ true
+  one-there = ap (λ m. not (at_or_0 (λ n. n) (map.get m (p, i)) == 0)) first ∙ ap (λ o. not (at_or_0 (λ n. n) o == 0)) gotten
 
-  pub one-taken_back : without_reference (with_reference fs p 2) p 2 ≡ fs
+  pub one-taken_back : without_reference (with_reference fs p i) p i ≡ fs
   one-taken_back =
-      let one : References = map.insert fs.references (p, 2) 1 in
+      let one : References = map.insert fs.references (p, i) 1 in
       ap (λ m. record fs { references = m })
-      (ap (λ m. if nat_le (at_or_0 (λ n. n) (map.get m (p, 2))) 1 then map.remove m (p, 2) else map.insert m (p, 2) (at_or_0 (λ n. n) (map.get m (p, 2)) - 1)) first
-      ∙ ap (λ o. if nat_le (at_or_0 (λ n. n) o) 1 then map.remove one (p, 2) else map.insert one (p, 2) (at_or_0 (λ n. n) o - 1)) gotten
-      ∙ remove-insert pair_cmp_total pair_cmp-IsAntisymmetric fs.references (p, 2) 1 none)
+      (ap (λ m. if nat_le (at_or_0 (λ n. n) (map.get m (p, i))) 1 then map.remove m (p, i) else map.insert m (p, i) (at_or_0 (λ n. n) (map.get m (p, i)) - 1)) first
+      ∙ ap (λ o. if nat_le (at_or_0 (λ n. n) o) 1 then map.remove one (p, i) else map.insert one (p, i) (at_or_0 (λ n. n) o - 1)) gotten
+      ∙ remove-insert pair_cmp_total pair_cmp-IsAntisymmetric fs.references (p, i) 1 none)
 
 -- nothing is referred to any more
 pub kept-forgotten : (a : Inside) → a.files ≡ map.empty → IsKept a → IsKept (record a { references = map.empty; holders = places_of 0 })

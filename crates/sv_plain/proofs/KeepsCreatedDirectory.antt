@@ -40,7 +40,7 @@ make-need fs d name node there missing =
     ∙ ap (λ o. at_or_0 (entry_need fs.block) o + 1) there
 
 -- a new directory uses one block
-used-made : (block i d mode : ℕ) → used block (new_node block i d mode Dir) ≤ 1
+pub used-made : (block i d mode : ℕ) → used block (new_node block i d mode Dir) ≤ 1
 unfolding used
 used-made block i d mode =
     let per : ℕ = numbers_per block in

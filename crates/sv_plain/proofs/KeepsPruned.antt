@@ -97,7 +97,7 @@ module _ (fs : Fs) (d i : ℕ) (old new x y : Node) (w : IsWhole fs) (o : IsPrun
       let second : one_if (entry_inode fs.block x 1 == k) ≡ one_if (d == k) = ap (λ n. one_if (n == k)) up in
       omega (arith, naming-split fs.block x k (two_entries fs.block i x dir), first, second, o.childless k nonzero)
 
-  live : is_live new ≡ true
+  pub live : is_live new ≡ true
   live =
       let dir = w.directories d old o.there o.was_live in
       let d_some = some d old o.there in

@@ -1,5 +1,5 @@
 -- A file system stays whole where nodes go that no link leads to and that nothing refers to.
-use Rattle.std.proofs.Common.{◌≡◌, ℕ, ◌==◌, Bool, true, false, cond, not, ◌&&◌, ◌||◌, List, [], ◌∷◌, Option, Some, None, is_some, sym, refl, ap, subst, ◌∙◌}
+use Rattle.std.proofs.Common.{◌≡◌, ◌≤◌, ℕ, ◌-◌, ◌==◌, Bool, true, false, cond, not, ◌&&◌, ◌||◌, List, [], ◌∷◌, Option, Some, None, is_some, sym, refl, ap, subst, ◌∙◌, arith}
 use Rattle.std.proofs.lemmas.Bool.{eqb-true}
 use Rattle.std.specs.List.{list_any, filter}
 use Rattle.std.specs.Ordering.{nat_cmp, eq_by_cmp}
@@ -59,6 +59,13 @@ without_nodes : Fs → List ℕ → Fs
 without_nodes fs [] = fs
 without_nodes fs (i ∷ is) = without_node (without_nodes fs is) i
 
+at_most : (b : Bool) (n : ℕ) → cond b (n - 1) n ≤ n
+at_most true n = omega arith
+at_most false n = omega arith
+
+one_less : (nodes : Nodes) (i : ℕ) → fmap.len (fmap.remove nodes i) ≤ fmap.len nodes
+one_less nodes i = (let e = fmap.len-remove nat_cmp_total nodes i in let most = at_most (fmap.contains_key nodes i) (fmap.len nodes) in omega (arith, e, most))
+
 -- an inode that has no links has none once others went
 links-after : (nodes : Nodes) (i j : ℕ) → at_or_0 (λ (n : Node). n.links) (fmap.get nodes j) ≡ 0 → at_or_0 (λ (n : Node). n.links) (fmap.get (fmap.remove nodes i) j) ≡ 0
 links-after nodes i j none =
@@ -108,17 +115,29 @@ module _ (fs : Fs) where
   same-but-nodes [] = refl
   same-but-nodes (i ∷ is) = ap (λ (f : Fs). without_node f i) (same-but-nodes is)
 
-  -- all nodes that pass a test go, where each of them is lost
-  pub keeps-gone : (gone : ℕ → Bool) → ((i : ℕ) → gone i ≡ true → is_lost fs i ≡ true) → IsWhole fs → IsWhole (record fs { nodes = fmap.retain_keys fs.nodes (λ i. not (gone i)) })
-  keeps-gone gone lost w =
+  nodes-left : (gone : ℕ → Bool) → (without_nodes fs (filter gone (fmap.keys fs.nodes))).nodes ≡ fmap.retain_keys fs.nodes (λ i. not (gone i))
+  nodes-left gone =
       let ks : List ℕ = fmap.keys fs.nodes in
-      let nodes : (without_nodes fs (filter gone ks)).nodes ≡ fmap.retain_keys fs.nodes (λ i. not (gone i)) =
       fmap.same_map nat_cmp_total nat_cmp-IsAntisymmetric _ _
       (λ q. get-without (filter gone ks) q
       ∙ ap (λ b. cond b None (fmap.get fs.nodes q)) (any-filter gone ks q)
       ∙ gone_or_not (gone q) (list_any (eq_by_cmp nat_cmp q) ks) (fmap.get fs.nodes q) (fmap.contains_key-keys fs.nodes q)
-      ∙ sym (fmap.get-retain_keys fs.nodes (λ i. not (gone i)) q (λ x tied. ap (λ i. not (gone i)) (sym (nat_cmp-IsAntisymmetric q x tied))))) in
-      subst IsWhole (same-but-nodes (filter gone ks) ∙ ap (λ m. record fs { nodes = m }) nodes) (keeps-without gone ks lost w)
+      ∙ sym (fmap.get-retain_keys fs.nodes (λ i. not (gone i)) q (λ x tied. ap (λ i. not (gone i)) (sym (nat_cmp-IsAntisymmetric q x tied)))))
+
+  fewer : (is : List ℕ) → fmap.len (without_nodes fs is).nodes ≤ fmap.len fs.nodes
+  unfolding without_nodes
+  fewer [] = omega arith
+  fewer (i ∷ is) = (let rest = fewer is in omega (arith, rest, one_less (without_nodes fs is).nodes i))
+
+  -- no more nodes are left than there were
+  pub few-left : (gone : ℕ → Bool) → fmap.len (fmap.retain_keys fs.nodes (λ i. not (gone i))) ≤ fmap.len fs.nodes
+  few-left gone = subst (λ (m : Nodes). fmap.len m ≤ fmap.len fs.nodes) (nodes-left gone) (fewer (filter gone (fmap.keys fs.nodes)))
+
+  -- all nodes that pass a test go, where each of them is lost
+  pub keeps-gone : (gone : ℕ → Bool) → ((i : ℕ) → gone i ≡ true → is_lost fs i ≡ true) → IsWhole fs → IsWhole (record fs { nodes = fmap.retain_keys fs.nodes (λ i. not (gone i)) })
+  keeps-gone gone lost w =
+      let ks : List ℕ = fmap.keys fs.nodes in
+      subst IsWhole (same-but-nodes (filter gone ks) ∙ ap (λ m. record fs { nodes = m }) (nodes-left gone)) (keeps-without gone ks lost w)
 
 pub keeps-purge : (fs after : Fs) (reply : Reply) → IsWhole fs → HasPurged fs reply after → IsWhole after
 keeps-purge fs after Done w h = subst IsWhole (sym h) (keeps-gone fs (is_lost fs) (λ i e. e) w)

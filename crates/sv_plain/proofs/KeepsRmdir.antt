@@ -10,7 +10,7 @@ use Rattle.sv_plain.specs.declared.reply.Reply.TheVariants.{Removed}
 use Rattle.sv_plain.specs.Totals.{at_or_0, one_if}
 use Rattle.sv_plain.specs.Fs.{Fs, changed, is_live, is_full_for, naming_count, namings}
 use Rattle.sv_plain.specs.Whole.{IsWhole}
-use Rattle.sv_plain.specs.Names.{some_and, place_of, has_more, is_directory}
+use Rattle.sv_plain.specs.Names.{some_and, place_of, has_more, is_directory, links_of}
 use Rattle.sv_plain.specs.Change.{put, without_entry, with_links}
 use Rattle.sv_plain.specs.Step.{is_dots, is_in_use, rmdir_replies, rmdir_change}
 use Rattle.sv_plain.proofs.Got.{and_left, and_right, not_true}
@@ -25,9 +25,9 @@ use Rattle.sv_plain.proofs.KeepsRemoval.{Nodes, naming-some}
 use Rattle.sv_plain.proofs.KeepsFile.{get_other}
 use Rattle.sv_plain.proofs.KeepsLinks.{used-links, changed-there}
 use Rattle.sv_plain.proofs.KeepsWhole.{place-of}
-use Rattle.sv_plain.proofs.KeepsNames.{some_bytes, named-with, used-below, child-of, some_changed}
+use Rattle.sv_plain.proofs.KeepsNames.{some_bytes, named-with, used-below, HasChild, child-of, some_changed}
 use Rattle.sv_plain.proofs.KeepsDirectory.{some_node}
-use Rattle.sv_plain.proofs.KeepsPruned.{IsPruned, keeps-pruned}
+use Rattle.sv_plain.proofs.KeepsPruned.{IsPruned, keeps-pruned, live as pruned-live}
 use Rattle.sv_plain.proofs.TwoNodes.{live_links, some_links}
 
 -- ---- a directory without a further entry
@@ -102,7 +102,7 @@ module _ (fs : Fs) (d i j : ℕ) (name : List ℕ) (node x : Node) (w : IsWhole 
       omega (arith, changed, old, now)
 
   -- the directory that goes is not the one that names it, which has a further entry
-  other : d ≢ i
+  pub other : d ≢ i
   other s =
       let same : node ≡ x = some_node node x (sym there ∙ ap (map.get fs.nodes) s ∙ it) in
       let some : i ≢ 0 = (let least = (w.nodes i x it).least in (λ z. absurd (omega (arith, z, least)))) in
@@ -142,6 +142,10 @@ module _ (fs : Fs) (d i j : ℕ) (name : List ℕ) (node x : Node) (w : IsWhole 
             omega (arith, w.blocks, first, second, old, old_it, used-new, used-links fs.block (λ _. 0) x));
       }
 
+  -- the directory above keeps a link
+  pub two_links : 2 ≤ node.links
+  two_links = (let one = some_links (is_dir new.kind) new.links (pruned-live fs d i node new x y w pruned) in omega (arith, one))
+
   pub removed : (p : ℕ) → is_full_for fs i ≡ false → IsWhole (rmdir_change fs p d name (Removed i))
   removed p room =
       let f : Node → Node = λ node. with_links (λ links. links - 1) (without_entry fs.block name node) in
@@ -157,12 +161,35 @@ module _ (fs : Fs) (d i j : ℕ) (name : List ℕ) (node x : Node) (w : IsWhole 
       let is : IsSome (map.get fs.nodes i) = subst IsSome (sym it) refl in
       keeps-one_more one p i whole_one (some_changed (changed fs.nodes d f) i i (with_links (λ _. 0)) (some_changed fs.nodes d i f is)) (number_within fs i w is) room
 
+-- what a name leads to that may be removed as a directory
+module _ (fs : Fs) (d i : ℕ) (name : List ℕ) (w : IsWhole fs) (no_dots : is_dots name ≡ false) (right : rmdir_replies fs d name (Removed i) ≡ true) where
+  c : HasChild fs d i name (λ c. not (is_full_for fs c) && (is_directory fs c && not (is_in_use fs c)))
+  c = child-of fs d i name (λ c. not (is_full_for fs c) && (is_directory fs c && not (is_in_use fs c))) w right
+
+  room : is_full_for fs i ≡ false
+  room = not_true (is_full_for fs i) (and_left (not (is_full_for fs i)) (is_directory fs i && not (is_in_use fs i)) c.passed)
+
+  kind : (is_directory fs i && not (is_in_use fs i)) ≡ true
+  kind = and_right (not (is_full_for fs i)) (is_directory fs i && not (is_in_use fs i)) c.passed
+
+  dir : is_dir c.x.kind ≡ true
+  dir = ap (λ o. some_and o (λ (n : Node). is_dir n.kind)) (sym c.it) ∙ and_left (is_directory fs i) (not (is_in_use fs i)) kind
+
+  empty : has_more fs.block c.x ≡ false
+  empty = ap (λ o. some_and o (has_more fs.block)) (sym c.it) ∙ not_true (is_in_use fs i) (and_right (is_directory fs i) (not (is_in_use fs i)) kind)
+
+  pub rmdir-apart : d ≢ i
+  rmdir-apart = other fs d i c.j name c.node c.x w c.there c.live c.it dir empty c.place c.names no_dots
+
+  pub rmdir-links : 2 ≤ links_of fs d
+  rmdir-links =
+      let two = two_links fs d i c.j name c.node c.x w c.there c.live c.it dir empty c.place c.names no_dots in
+      let is : links_of fs d ≡ c.node.links = ap (at_or_0 (λ (n : Node). n.links)) c.there in
+      omega (arith, two, is)
+
+  keeps-removed : (p : ℕ) → IsWhole (rmdir_change fs p d name (Removed i))
+  keeps-removed p = removed fs d i c.j name c.node c.x w c.there c.live c.it dir empty c.place c.names no_dots p room
+
 pub keeps-rmdir : (fs : Fs) (p d : ℕ) (name : List ℕ) (reply : Reply) → IsWhole fs → is_dots name ≡ false → rmdir_replies fs d name reply ≡ true → IsWhole (rmdir_change fs p d name reply)
-keeps-rmdir fs p d name (Removed i) w no_dots right =
-    let c = child-of fs d i name (λ c. not (is_full_for fs c) && (is_directory fs c && not (is_in_use fs c))) w right in
-    let room = not_true (is_full_for fs i) (and_left (not (is_full_for fs i)) (is_directory fs i && not (is_in_use fs i)) c.passed) in
-    let kind = and_right (not (is_full_for fs i)) (is_directory fs i && not (is_in_use fs i)) c.passed in
-    let dir : is_dir c.x.kind ≡ true = ap (λ o. some_and o (λ (n : Node). is_dir n.kind)) (sym c.it) ∙ and_left (is_directory fs i) (not (is_in_use fs i)) kind in
-    let empty : has_more fs.block c.x ≡ false = ap (λ o. some_and o (has_more fs.block)) (sym c.it) ∙ not_true (is_in_use fs i) (and_right (is_directory fs i) (not (is_in_use fs i)) kind) in
-    removed fs d i c.j name c.node c.x w c.there c.live c.it dir empty c.place c.names no_dots p room
+keeps-rmdir fs p d name (Removed i) w no_dots right = keeps-removed fs d i name w no_dots right p
 keeps-rmdir fs p d name _ w no_dots right = w

@@ -36,7 +36,7 @@ written_kind File m only w = refl
 written_kind Dir m only w = (let reads : writes m ≡ writes R = ap writes (only refl) in cc)
 
 -- what a write to this file takes
-need-is : (fs : Fs) (file count : ℕ) (f : Opening) (node : Node) → map.get fs.files file ≡ Some f → map.get fs.nodes f.inode ≡ Some node → write_need fs file count ≡ range_need fs.block node f.offset count
+pub need-is : (fs : Fs) (file count : ℕ) (f : Opening) (node : Node) → map.get fs.files file ≡ Some f → map.get fs.nodes f.inode ≡ Some node → write_need fs file count ≡ range_need fs.block node f.offset count
 need-is fs file count f node on there =
     ap (at_or_0 (λ (g : Opening). at_or_0 (λ (n : Node). range_need fs.block n g.offset count) (map.get fs.nodes g.inode))) on
     ∙ ap (at_or_0 (λ (n : Node). range_need fs.block n f.offset count)) there

@@ -43,7 +43,7 @@ block_set-between per ks k ps =
     ∙ sym (contains-with_blocks _ (blocks_at per k) q))
 
 -- the blocks of the pages that were there and of those that were written
-block_set-with_pages : (per : ℕ) (pages : fmap.FinMap nat_cmp (List ℕ)) (f : ℕ → List ℕ) (ps : List ℕ) → block_set per (fmap.keys (with_pages pages f ps)) ≡ block_set per (fmap.keys pages ++ ps)
+pub block_set-with_pages : (per : ℕ) (pages : fmap.FinMap nat_cmp (List ℕ)) (f : ℕ → List ℕ) (ps : List ℕ) → block_set per (fmap.keys (with_pages pages f ps)) ≡ block_set per (fmap.keys pages ++ ps)
 block_set-with_pages per pages f [] = ap (block_set per) (sym (append-nil (fmap.keys pages)))
 block_set-with_pages per pages f (p ∷ ps) =
     block_set-insert per (with_pages pages f ps) p (f p)
@@ -68,7 +68,7 @@ used-put block at node bytes =
     ap set.len (block_set-with_pages per node.pages (page_after block node at bytes) ps) in
     omega (arith, now, more_blocks per (fmap.keys node.pages) ps)
 
-range-append : (a m n : ℕ) → range_with_len a (m + n) ≡ range_with_len a m ++ range_with_len (a + m) n
+pub range-append : (a m n : ℕ) → range_with_len a (m + n) ≡ range_with_len a m ++ range_with_len (a + m) n
 range-append a zero n =
     let none : zero + n ≡ n = omega arith in
     let here : a + zero ≡ a = omega arith in
@@ -77,10 +77,10 @@ range-append a (suc m) n =
     let more : suc m + n ≡ suc (m + n) = omega arith in
     ap (range_with_len a) more ∙ ap (λ l. a ∷ l) (range-append (a + 1) m n ∙ ap (λ k. range_with_len (a + 1) m ++ range_with_len k n) (omega arith))
 
-later_page : (block a b : ℕ) → 1 ≤ block → a ≤ b → a / block ≤ b / block
+pub later_page : (block a b : ℕ) → 1 ≤ block → a ≤ b → a / block ≤ b / block
 later_page block a b some h = le-div (a / block) b block some (let low = div-mul-le_self a block in omega (arith, low, h))
 
-touched-some : (block at n : ℕ) → n ≢ 0 → touched block at n ≡ range_with_len (at / block) ((at + n - 1) / block - at / block + 1)
+pub touched-some : (block at n : ℕ) → n ≢ 0 → touched block at n ≡ range_with_len (at / block) ((at + n - 1) / block - at / block + 1)
 touched-some block at n some = ap (λ t. if t then [] else range_with_len (at / block) ((at + n - 1) / block - at / block + 1)) (ne_eqb n 0 some)
 
 -- the pages of the first bytes come first

@@ -108,3 +108,11 @@ module _ {K : Type 0} {R : K → K → Ordering} (o : IsTotalOrder R) where
 
   pub shown_set-len : (s : BTreeSet K) → bag.IsOrdered R s → set.len (shown_set {R = R} s) ≡ bag.btree_set_len s
   shown_set-len s h = len_of_sorted_keys s.keys h
+
+no_key : {K : Type 0} (ks : List K) → length ks ≡ 0 → ks ≡ []
+no_key [] e = refl
+no_key (k ∷ ks) e = absurd (omega (arith, e))
+
+-- a tree without keys
+pub shown_set-none : {K : Type 0} {R : K → K → Ordering} → IsTotalOrder R → (s : BTreeSet K) (q : K) → bag.btree_set_len s ≡ 0 → set.contains (shown_set {R = R} s) q ≡ false
+shown_set-none {R = R} o s q none = shown_set-contains o s q ∙ ap (list_any (eq_by_cmp R q)) (no_key s.keys none)

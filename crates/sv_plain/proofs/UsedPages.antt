@@ -23,7 +23,7 @@ any-snoc f t k (j ∷ ks) =
     ∙ ap (λ c. list_any t (f k) || c) (sym (any-cons f t j ks))
 
 -- the blocks with one page more, which stands last
-block_set-snoc : (per : ℕ) (ks : List ℕ) (k : ℕ) → block_set per (ks ++ k ∷ []) ≡ with_blocks (block_set per ks) (blocks_at per k)
+pub block_set-snoc : (per : ℕ) (ks : List ℕ) (k : ℕ) → block_set per (ks ++ k ∷ []) ≡ with_blocks (block_set per ks) (blocks_at per k)
 unfolding block_set
 block_set-snoc per ks k =
     set.same_set pair_cmp_total pair_cmp-IsAntisymmetric _ _

@@ -22,6 +22,7 @@ pub fn begin(fs: &mut Fs, alloc: Global, processes: u8, table: u32) -> Result<()
     requires some { 1 ≤ table }
     ensures begun { OnOk result (fs.new ≡ begun fs.old processes table) }
     ensures refused { OnErr result (fs.new ≡ fs.old) }
+    ensures whole { IsWhole fs.new }
 {
     let places = fs.places();
     fs.set_places(table);

@@ -6,10 +6,13 @@ ghost use Rattle.sv_plain.specs.Fs.{empty_fs, with_node, with_page_of, page_of, 
 ghost use Rattle.sv_plain.specs.Whole.{IsWhole};
 
 mod changes;
+mod entries;
+mod entry_needs;
 mod nodes;
+mod pages;
 mod queries;
 
-use crate::{HolderCounts, NoMemory, Node, NumberMap, Opening, PairMap, PairSet};
+use crate::{HolderCounts, NoMemory, Node, Nodes, NumberMap, Opening, PairMap, PairSet};
 use std::alloc::Global;
 use std::marker::Model;
 use sv_form::{Bytes, Geometry, Kind};
@@ -22,7 +25,7 @@ const DEEPEST: u64 = 4;
 /// in the table of in-core inodes, and of holders of an inode.
 #[derive(Drop)]
 pub struct Fs {
-    nodes: NumberMap<Node>,
+    nodes: Nodes,
     references: PairMap<u32>,
     files: NumberMap<Opening>,
     promises: NumberMap<u32>,
@@ -59,7 +62,7 @@ impl Fs {
         ensures { IfOk result (λ fs. fs ≡ empty_fs geometry) }
     {
         Ok(Fs {
-            nodes: NumberMap::new(alloc),
+            nodes: Nodes::new(alloc),
             references: PairMap::new(alloc),
             files: NumberMap::new(alloc),
             promises: NumberMap::new(alloc),
@@ -120,7 +123,8 @@ impl Fs {
             return Err(NoMemory);
         }
         let key = u32::from(n);
-        let mut node = Node::new(alloc, Kind::File, 0, 0, 0);
+        let links = self.links_of(n);
+        let mut node = Node::new(alloc, Kind::File, 0, links, 0);
         let mut blocks = PairSet::new(alloc);
         self.nodes.swap(key, &mut node);
         self.blocks.swap(key, &mut blocks);

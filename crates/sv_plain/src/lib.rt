@@ -10,9 +10,9 @@
 //! The meaning of a state, and what holds of it at every moment, are `Fs` and `IsWhole` of the specs.
 #![tactic(auto)]
 
-mod apply;
 mod beginning;
 mod blocks;
+mod directory_bytes;
 mod entry;
 mod fs;
 mod holder_counts;
@@ -21,14 +21,20 @@ mod laws;
 mod mode;
 mod need;
 mod node;
+mod nodes;
 mod number_map;
+mod number_set;
 mod op;
 mod opening;
+mod page_need;
 mod pair_map;
 mod pair_set;
 mod reply;
+mod steps;
+mod taking;
 #[cfg(test)]
 mod tests;
+mod tree_text;
 
 pub use beginning::begin;
 pub use entry::Entry;
@@ -39,6 +45,7 @@ pub use laws::steps_keep_whole;
 pub use mode::Mode;
 pub use need::Need;
 pub use node::Node;
+pub(crate) use nodes::Nodes;
 pub use number_map::NumberMap;
 pub use op::Op;
 pub use opening::Opening;
@@ -46,3 +53,5 @@ pub use pair_map::PairMap;
 pub use pair_set::PairSet;
 pub use reply::Reply;
 pub use std::alloc::AllocError as NoMemory;
+pub use taking::apply;
+pub use tree_text::listing;

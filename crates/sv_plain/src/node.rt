@@ -8,6 +8,7 @@ ghost use Rattle.sv_plain.specs.Fs.{with_page};
 mod bytes;
 mod entries;
 mod pages;
+mod writes;
 
 use crate::blocks::put_page_blocks;
 use crate::{NoMemory, NumberMap, PairSet};
@@ -58,6 +59,13 @@ impl Node {
             Some(bytes) => Some(bytes.as_slice()),
             None => None,
         }
+    }
+
+    /// How many pages are present.
+    pub(crate) fn page_count(&self) -> usize
+        ensures { result ≡ map.len self.now.pages }
+    {
+        self.pages.len()
     }
 
     /// Adds a page to the node and its blocks to the node's set of blocks, or changes neither.

@@ -1,4 +1,11 @@
-use crate::{Fs, NoMemory};
+mod history;
+mod refused;
+mod writes;
+
+use crate::blocks::put_page_blocks;
+use crate::directory_bytes::first_page;
+use crate::page_need::page_need;
+use crate::{Fs, NoMemory, PairSet};
 use std::alloc::Global;
 use std::test::Fail;
 use sv_form::{Bytes, Geometry, Kind};
@@ -39,4 +46,49 @@ fn nodes_and_pages(rt: HostRuntime) {
     assert_eq!(rt; first_byte(&fs, 3, 10), Some(7));
     assert_eq!(rt; first_byte(&fs, 3, 9), None);
     assert_eq!(rt; first_byte(&fs, 2, 10), None);
+}
+
+// How many blocks the second page adds to those of the first, with 256 numbers in an indirect block.
+fn added(alloc: Global, first: u32, second: u32) -> Result<u32, NoMemory> {
+    let mut blocks = PairSet::new(alloc);
+    put_page_blocks(&mut blocks, 256, first)?;
+    Ok(page_need(&blocks, 256, second))
+}
+
+// Ten pages have no indirect block above them, the next 256 one, the next 65,536 two, and the others three.
+#[test]
+fn blocks_that_a_page_adds(rt: HostRuntime) {
+    for (first, second, want) in [
+        (0, 0, 0),
+        (0, 9, 1),
+        (9, 10, 2),
+        (10, 265, 1),
+        (10, 266, 3),
+        (266, 521, 1),
+        (266, 522, 2),
+        (0, 65_801, 3),
+        (0, 65_802, 4),
+    ] {
+        assert_eq!(rt;
+            added(rt.alloc(), first, second),
+            Ok(want),
+            "{first} and {second}"
+        );
+    }
+}
+
+// Directory 3, made in directory 258.
+#[test]
+fn first_page_of_a_directory(rt: HostRuntime) {
+    let Ok(page) = first_page(rt.alloc(), 1024, 3, 258) else {
+        assert!(rt; false);
+        return;
+    };
+    let front = [
+        3, 0, b'.', 0, 0, 0, 0, 0, 0, 0, 0, 0, 0, 0, 0, 0, 2, 1, b'.', b'.', 0, 0, 0, 0, 0, 0, 0,
+        0, 0, 0, 0, 0, 0,
+    ];
+    let bytes = page.as_slice();
+    assert_eq!(rt; bytes.len(), 1024);
+    assert!(rt; bytes.starts_with(&front));
 }

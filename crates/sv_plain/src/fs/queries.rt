@@ -1,12 +1,12 @@
 // What steps ask of the file system: each costs a logarithm in what it holds.
-ghost use Rattle.std.specs.Prelude.{◌≡◌, ◌≤◌};
+ghost use Rattle.std.specs.Prelude.{◌≡◌, ◌≤◌, ◌<◌, ◌^◌, option_copied};
 ghost use Rattle.std.specs.FinMap as map;
 ghost use Rattle.sv_plain.specs.Totals.{at_or_0};
-ghost use Rattle.sv_plain.specs.Fs.{holders, is_referenced, is_full_for};
+ghost use Rattle.sv_plain.specs.Fs.{holders, is_referenced, is_full_for, room};
 ghost use Rattle.sv_plain.specs.Names.{references_of, has_reference, promise_of, is_pending, is_directory, links_of, is_table_full, is_idle, is_opened, is_open_to_names, child};
 ghost use Rattle.sv_plain.specs.Step.{has_file, is_in_use};
 
-use crate::{Fs, Opening};
+use crate::{Fs, Node, Opening};
 use sv_form::{Kind, Name};
 
 impl Fs {
@@ -83,6 +83,21 @@ impl Fs {
         }
     }
 
+    // The node with the number i, which may be any.
+    pub(crate) fn node_at(&self, i: u32) -> Option<&Node>
+        ensures { option_copied result ≡ map.get self.now.nodes i }
+    {
+        self.nodes.get(i)
+    }
+
+    // How many inodes there are, free ones included.
+    pub(crate) fn inode_count(&self) -> u32
+        ensures same { result ≡ self.now.inodes }
+        ensures few { result < 2 ^ 16 }
+    {
+        self.inodes
+    }
+
     // How many places the table of in-core inodes has.
     pub(crate) fn places(&self) -> u32
         ensures { result ≡ self.now.places }
@@ -93,14 +108,16 @@ impl Fs {
     // How many bytes a block has.
     pub(crate) fn block_size(&self) -> u32
         ensures same { result ≡ self.now.block }
-        ensures some { 4 ≤ result }
+        ensures some { 32 ≤ result }
+        ensures small { result ≤ 1024 }
     {
         self.block_size
     }
 
     // The greatest size of a file in bytes.
     pub(crate) fn greatest(&self) -> u32
-        ensures { result ≡ self.now.greatest }
+        ensures same { result ≡ self.now.greatest }
+        ensures fits { result < 2147483648 }
     {
         self.greatest
     }
@@ -145,6 +162,15 @@ impl Fs {
         ensures { result ≡ map.contains_key self.now.promises process }
     {
         self.promises.contains(u32::from(process))
+    }
+
+    // The data blocks that are neither used nor promised.
+    pub(crate) fn room(&self) -> u64
+        ensures { result ≡ room self.now }
+    {
+        u64::from(self.data_blocks)
+            .saturating_sub(self.used)
+            .saturating_sub(self.promised)
     }
 
     // The process has a pending link on inode i.

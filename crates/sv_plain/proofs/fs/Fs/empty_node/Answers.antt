@@ -1,4 +1,4 @@
-use Rattle.std.proofs.Common.{◌≡◌, IsSome, Some, ap, sym, subst, ◌∙◌, arith}
+use Rattle.std.proofs.Common.{◌≡◌, ℕ, option_map, Some, ap, sym, subst, ◌∙◌, arith}
 use Rattle.std.specs.Ordering.{nat_cmp}
 use Rattle.std.specs.Cmp.{nat_cmp_total}
 use Rattle.std.specs.FinMap as map
@@ -10,8 +10,9 @@ use Rattle.sv_plain.specs.Fs.{Fs, changed}
 use Rattle.sv_plain.specs.Change.{emptied}
 use Rattle.sv_plain.specs.Keeping.{fs_of}
 use Rattle.sv_plain.proofs.Undone.{insert-insert}
-use Rattle.sv_plain.proofs.Kept.{there-twice}
 use Rattle.sv_plain.proofs.KeptNodes.{used-within, kept-emptied, changed-there}
+use Rattle.sv_plain.proofs.KeptUnlinked.{links-swap}
+use Rattle.sv_plain.specs.Names.{links_of}
 use Rattle.sv_plain.proofs.fs.Fs.empty_node.Goals as goal
 
 pub overflow_sub-self : goal.overflow_sub-self
@@ -20,7 +21,13 @@ overflow_sub-self c =
     omega (arith, gone, used-within c.self.inside c.from-key.result c.self.invariant)
 
 pub swap-requires-3 : goal.swap-requires-3
-swap-requires-3 c = subst (λ (m : map.FinMap nat_cmp Node). IsSome (map.get m c.from-key.result)) (sym c.swap.ensures.put) (there-twice c.self.inside.nodes c.from-key.result _)
+swap-requires-3 c =
+    let nodes = c.self.inside.nodes in
+    let key : ℕ = c.from-key.result in
+    let its : c.new-node.result.links ≡ at_or_0 (λ (n : Node). n.links) (map.get nodes key) =
+    ap (λ (n : Node). n.links) c.new-node.ensures ∙ c.links_of-links.ensures ∙ ap (λ (fs : Fs). links_of fs c.args.i) (sym c.self.view_is) ∙ ap (λ k. at_or_0 (λ (n : Node). n.links) (map.get nodes k)) (sym c.from-key.ensures) in
+    subst (λ (m : map.FinMap nat_cmp Node). option_map (λ (n : Node). n.links) (map.get m key) ≡ Some c.new-empty.result.links) (sym c.swap.ensures.put)
+    (links-swap nodes key c.new-node.result c.swap.new.value c.new-empty.result c.swap.ensures.taken its (ap (λ (n : Node). n.links) (c.new-empty.ensures ∙ ap emptied c.node.view_is)))
 
 pub invariant_of-self : goal.invariant_of-self
 invariant_of-self c =

@@ -1,4 +1,4 @@
-use Rattle.std.proofs.Common.{◌≡◌, ◌/◌, ℕ, Bool, cond, Some, IsSome, is_ok, sym, ap, subst, ◌∙◌, arith}
+use Rattle.std.proofs.Common.{◌≡◌, ◌/◌, ℕ, Bool, option_map, cond, Some, IsSome, is_ok, sym, ap, subst, ◌∙◌, arith}
 use Rattle.std.specs.Ordering.{nat_cmp}
 use Rattle.std.specs.Cmp.{nat_cmp_total}
 use Rattle.std.specs.FinMap as map
@@ -11,6 +11,9 @@ use Rattle.sv_plain.specs.Fs.{Fs, with_page, with_page_of, changed}
 use Rattle.sv_plain.specs.Keeping.{fs_of}
 use Rattle.sv_plain.proofs.Undone.{insert-insert, insert-known}
 use Rattle.sv_plain.proofs.Kept.{its_blocks, its_blocks-taken, kept-page_or_not, page-grown, page-added, there-twice, on_ok, on_err}
+use Rattle.sv_plain.proofs.KeptUnlinked.{links-swap, page_or_not-links}
+use Rattle.sv_plain.specs.Names.{links_of}
+use Rattle.sv_plain.specs.Totals.{at_or_0}
 use Rattle.sv_plain.proofs.fs.Fs.put_page.Goals as goal
 
 pub overflow_sub-self : goal.overflow_sub-self
@@ -28,7 +31,13 @@ overflow_add-self c =
     omega (arith, grown.1, after, c.len-before.ensures)
 
 pub swap-requires-3 : goal.swap-requires-3
-swap-requires-3 c = subst (λ (m : map.FinMap nat_cmp Node). IsSome (map.get m c.from-key.result)) (sym c.swap.ensures.put) (there-twice c.self.inside.nodes c.from-key.result _)
+swap-requires-3 c =
+    let nodes = c.self.inside.nodes in
+    let key : ℕ = c.from-key.result in
+    let its : c.new-node.result.links ≡ at_or_0 (λ (n : Node). n.links) (map.get nodes key) =
+    ap (λ (n : Node). n.links) c.new-node.ensures ∙ c.links_of-links.ensures ∙ ap (λ (fs : Fs). links_of fs c.args.n) (sym c.self.view_is) ∙ ap (λ k. at_or_0 (λ (n : Node). n.links) (map.get nodes k)) (sym c.from-key.ensures) in
+    subst (λ (m : map.FinMap nat_cmp Node). option_map (λ (n : Node). n.links) (map.get m key) ≡ Some c.add_page-outcome.new.self.links) (sym c.swap.ensures.put)
+    (links-swap nodes key c.new-node.result c.swap.new.value c.add_page-outcome.new.self c.swap.ensures.taken its (ap (λ (n : Node). n.links) c.add_page-outcome.ensures.node ∙ page_or_not-links (is_ok c.add_page-outcome.result) c.args.page c.args.bytes c.swap.new.value))
 
 pub swap-requires-4 : goal.swap-requires-4
 swap-requires-4 c = subst (λ (m : map.FinMap nat_cmp (set.FinSet pair_cmp)). IsSome (map.get m c.from-key.result)) (sym c.swap-2.ensures.put) (there-twice c.self.inside.blocks c.from-key.result _)

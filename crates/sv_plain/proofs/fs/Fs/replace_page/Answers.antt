@@ -1,4 +1,4 @@
-use Rattle.std.proofs.Common.{◌≡◌, ℕ, IsSome, Some, option_and_then, ap, sym, subst, ◌∙◌}
+use Rattle.std.proofs.Common.{◌≡◌, ℕ, IsSome, Some, option_and_then, option_map, ap, sym, subst, ◌∙◌}
 use Rattle.std.specs.Ordering.{nat_cmp}
 use Rattle.std.specs.Cmp.{nat_cmp_total}
 use Rattle.std.specs.FinMap as map
@@ -7,12 +7,20 @@ use Rattle.sv_form.specs.Node.{Node}
 use Rattle.sv_plain.specs.Fs.{Fs, changed, page_of, with_page, with_page_of}
 use Rattle.sv_plain.specs.Keeping.{fs_of}
 use Rattle.sv_plain.proofs.Undone.{insert-insert}
-use Rattle.sv_plain.proofs.Kept.{there-twice}
 use Rattle.sv_plain.proofs.KeptNodes.{kept-replaced, page-there, changed-there}
+use Rattle.sv_plain.proofs.KeptUnlinked.{links-swap}
+use Rattle.sv_plain.specs.Names.{links_of}
+use Rattle.sv_plain.specs.Totals.{at_or_0}
 use Rattle.sv_plain.proofs.fs.Fs.replace_page.Goals as goal
 
 pub swap-requires-2 : goal.swap-requires-2
-swap-requires-2 c = subst (λ (m : map.FinMap nat_cmp Node). IsSome (map.get m c.from-key.result)) (sym c.swap.ensures.put) (there-twice c.self.inside.nodes c.from-key.result _)
+swap-requires-2 c =
+    let nodes = c.self.inside.nodes in
+    let key : ℕ = c.from-key.result in
+    let its : c.new-node.result.links ≡ at_or_0 (λ (n : Node). n.links) (map.get nodes key) =
+    ap (λ (n : Node). n.links) c.new-node.ensures ∙ c.links_of-links.ensures ∙ ap (λ (fs : Fs). links_of fs c.args.i) (sym c.self.view_is) ∙ ap (λ k. at_or_0 (λ (n : Node). n.links) (map.get nodes k)) (sym c.from-key.ensures) in
+    subst (λ (m : map.FinMap nat_cmp Node). option_map (λ (n : Node). n.links) (map.get m key) ≡ Some c.replace_page.new.self.links) (sym c.swap.ensures.put)
+    (links-swap nodes key c.new-node.result c.swap.new.value c.replace_page.new.self c.swap.ensures.taken its (ap (λ (n : Node). n.links) c.replace_page.ensures))
 
 pub invariant_of-self : goal.invariant_of-self
 invariant_of-self c =

@@ -1,38 +1,19 @@
-use Rattle.std.proofs.Common.{◌≡◌, IsSome, Some, ap, sym, subst, ◌∙◌}
-use Rattle.std.specs.Ordering.{nat_cmp}
-use Rattle.std.specs.Cmp.{nat_cmp_total}
+use Rattle.std.proofs.Common.{◌≡◌, ℕ, IsSome, Some, ap, sym, subst, ◌∙◌}
 use Rattle.std.specs.FinMap as map
-use Rattle.std.specs.FinMap.{nat_cmp-IsAntisymmetric}
 use Rattle.sv_form.specs.Node.{Node}
 use Rattle.sv_plain.specs.Fs.{Fs, changed}
 use Rattle.sv_plain.specs.Change.{with_links}
-use Rattle.sv_plain.specs.Keeping.{fs_of}
-use Rattle.sv_plain.proofs.Undone.{insert-insert}
-use Rattle.sv_plain.proofs.Kept.{there-twice}
+use Rattle.sv_plain.proofs.Kept.{some_of}
 use Rattle.sv_plain.proofs.KeptNodes.{kept-same_pages, changed-there}
 use Rattle.sv_plain.proofs.fs.Fs.set_links.Goals as goal
 
-pub swap-requires-2 : goal.swap-requires-2
-swap-requires-2 c = subst (λ (m : map.FinMap nat_cmp Node). IsSome (map.get m c.from-key.result)) (sym c.swap.ensures.put) (there-twice c.self.inside.nodes c.from-key.result _)
-
-pub invariant_of-self : goal.invariant_of-self
-invariant_of-self c =
+pub invariant_of-self-2 : goal.invariant_of-self-2
+invariant_of-self-2 c =
     let a = c.self.inside in
-    let node : Node = c.swap.new.value in
-    let other : Node = record node { links = c.args.links } in
-    let is : record { kind = c.node.inside.kind; mode = c.node.inside.mode; links = c.args.links; size = c.node.inside.size; pages = c.node.inside.pages } ≡ other = ap (λ (n : Node). record n { links = c.args.links }) c.node.view_is in
-    let nodes : c.swap-2.new.self ≡ map.insert a.nodes c.from-key.result other =
-    c.swap-2.ensures.put ∙ (λ i. map.insert (c.swap.ensures.put i) c.from-key.result (is i)) ∙ insert-insert nat_cmp_total nat_cmp-IsAntisymmetric a.nodes c.from-key.result _ _ in
-    rw nodes (kept-same_pages a c.from-key.result node other c.swap.ensures.taken (λ _. node.pages) c.self.invariant)
-
-pub returns : goal.returns
-returns c =
-    let a = c.self.inside in
-    let node : Node = c.swap.new.value in
-    let other : Node = record node { links = c.args.links } in
-    let is : record { kind = c.node.inside.kind; mode = c.node.inside.mode; links = c.args.links; size = c.node.inside.size; pages = c.node.inside.pages } ≡ other = ap (λ (n : Node). record n { links = c.args.links }) c.node.view_is in
-    let nodes : c.swap-2.new.self ≡ map.insert a.nodes c.from-key.result other =
-    c.swap-2.ensures.put ∙ (λ i. map.insert (c.swap.ensures.put i) c.from-key.result (is i)) ∙ insert-insert nat_cmp_total nat_cmp-IsAntisymmetric a.nodes c.from-key.result _ _ in
-    ap (λ m. record (fs_of a) { nodes = m })
-    (nodes ∙ changed-there a.nodes c.from-key.result (with_links (λ _. c.args.links)) node c.swap.ensures.taken ∙ ap (λ n. changed a.nodes n (with_links (λ _. c.args.links))) c.from-key.ensures)
-    ∙ ap (λ (fs : Fs). record fs { nodes = changed fs.nodes c.args.i (with_links (λ _. c.args.links)) }) c.self.view_is
+    let key : ℕ = c.from.result in
+    let there : IsSome (map.get a.nodes key) =
+    subst (λ (k : ℕ). IsSome (map.get a.nodes k)) (sym c.from.ensures) (subst (λ (fs : Fs). IsSome (map.get fs.nodes c.args.i)) (sym c.self.view_is) c.requires) in
+    let node = some_of (map.get a.nodes key) there in
+    let other : Node = record node.0 { links = c.args.links } in
+    let nodes : c.set_links.new.self ≡ map.insert a.nodes key other = c.in_ok-set_links.ensures.put ∙ sym (changed-there a.nodes key (with_links (λ _. c.args.links)) node.0 node.1) in
+    rw nodes (kept-same_pages a key node.0 other node.1 (λ _. node.0.pages) c.self.invariant)

@@ -1,0 +1,13 @@
+use Rattle.std.proofs.Common.{sym, ap, ◌∙◌}
+use Rattle.sv_form.specs.Node.{numbers_per}
+use Rattle.sv_plain.specs.Fs.{Fs}
+use Rattle.sv_plain.specs.Needs.{touched}
+use Rattle.sv_plain.specs.Missing.{node_blocks, added}
+use Rattle.sv_plain.proofs.BlocksAdded.{added-none}
+use Rattle.sv_plain.proofs.fs.Fs.range_need.Goals as goal
+
+pub returns-then-count-eq0 : goal.returns-then-count-eq0
+returns-then-count-eq0 c =
+    let fs : Fs = c.args.self.now in
+    added-none (node_blocks fs c.args.i) (numbers_per fs.block) 0
+    ∙ ap (λ n. added (node_blocks fs c.args.i) (numbers_per fs.block) (touched fs.block c.args.at n)) (sym c.if-count-eq0.true)

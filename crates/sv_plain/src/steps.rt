@@ -1,0 +1,12 @@
+// The steps, one op at a time: its condition, its replies, and what each reply changes.
+mod entering;
+mod files;
+mod links;
+mod making;
+mod names;
+mod promises;
+mod purge;
+mod reads;
+mod removal;
+mod stat;
+mod writes;
