@@ -1,3 +1,4 @@
+pub mod Bytes
 pub mod Holding
 pub mod Lines
 pub mod OwnContent
@@ -6,3 +7,4 @@ pub mod OwnLaws
 pub mod OwnParts
 pub mod OwnSteps
 pub mod OwnWhole
+pub mod Puts

@@ -1,4 +1,5 @@
 pub mod BufLends
+pub mod Bytes
 pub mod Calls
 pub mod Causes
 pub mod Content

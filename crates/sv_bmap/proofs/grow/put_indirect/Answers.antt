@@ -1,5 +1,6 @@
 -- The block has zero bytes before the number is put.
-use Rattle.sv_bmap.proofs.Writes.{holds-put, made-anew}
+use Rattle.sv_store.proofs.Puts.{holds-put}
+use Rattle.sv_bmap.proofs.Writes.{made-anew}
 use Rattle.sv_bmap.proofs.grow.put_indirect.Goals as goal
 
 pub put_number-requires-clause-block : goal.put_number-requires-clause-block

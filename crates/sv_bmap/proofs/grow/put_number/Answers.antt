@@ -1,6 +1,6 @@
 -- All lines of the block are held, so that it can be put back with any bytes.
 use Rattle.std.proofs.Common.{length, ap, ◌∙◌, refl}
-use Rattle.sv_bmap.proofs.Writes.{CanPut-whole, lent-at, back, refilled}
+use Rattle.sv_store.proofs.Puts.{CanPut-whole, back, lent-at, refilled}
 use Rattle.sv_store.specs.Held.{nothing_lent}
 use Rattle.sv_bmap.proofs.grow.put_number.Goals as goal
 

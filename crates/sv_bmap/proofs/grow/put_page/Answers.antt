@@ -2,7 +2,8 @@
 use Rattle.std.proofs.Common.{ℕ, length, ap, ◌∙◌, sym, refl}
 use Rattle.std.proofs.lemmas.List.{length-replicate}
 use Rattle.sv_store.specs.Held.{nothing_lent}
-use Rattle.sv_bmap.proofs.Writes.{CanPut-whole, lent-at, lent-with, back, refilled, holds-put, put-anew}
+use Rattle.sv_store.proofs.Puts.{CanPut-whole, back, holds-put, lent-at, lent-with, refilled}
+use Rattle.sv_bmap.proofs.Writes.{put-anew}
 use Rattle.sv_bmap.proofs.grow.put_page.Goals as goal
 
 pub bdwrite-requires : goal.bdwrite-requires

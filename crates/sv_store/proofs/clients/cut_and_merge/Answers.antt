@@ -1,47 +1,42 @@
--- The two sides of a cut hold no common line, and are together what was there before.
-use Rattle.std.proofs.Common.{ap, ◌∙◌, arith}
+-- The two sides of a cut hold no common line, and are together what was there before, but for the two bytes.
+use Rattle.std.proofs.Common.{◌∙◌, ap, sym}
 use Rattle.sv_store.specs.Held.{Lent}
-use Rattle.sv_store.proofs.Holding.{Apart-Parts, SameLines-merged, SameLines-eq, SameLines-trans, IsSome-kept, IsSome-given}
+use Rattle.sv_store.proofs.Bytes.{both-err, both-ok, cut-first, cut-set, merged-reason}
+use Rattle.sv_store.proofs.Holding.{Apart-Parts, IsSome-given, IsSome-kept}
 use Rattle.sv_store.proofs.clients.cut_and_merge.Goals as goal
 
-pub set_byte-first-requires-clause-block : goal.set_byte-first-requires-clause-block
-set_byte-first-requires-clause-block g c _ _ = record {
+pub set_both-done-requires-clause-mine : goal.set_both-done-requires-clause-mine
+set_both-done-requires-clause-mine g c _ _ = record {
   some = (0, IsSome-kept c.in_ok-part.ensures.ok c.args.mine 0 c.requires.stays c.requires.first_mine);
-  away = ap (λ q. q c.args.mine) c.part.ensures.lends ∙ c.requires.away;
+  away = ap (λ (q : Lent). q c.args.mine) c.part.ensures.lends ∙ c.requires.away;
 }
 
-pub set_byte-first-requires-clause-place : goal.set_byte-first-requires-clause-place
-set_byte-first-requires-clause-place g c _ _ =
-    omega (arith, ap (λ q. q.sizes.block_size) c.part.ensures.origin, ap (λ q. q.block_size) c.geometry-sizes.ensures.value, c.geometry-sizes.ensures.sizes.block_size)
-
-pub set_byte-first-requires-clause-line : goal.set_byte-first-requires-clause-line
-set_byte-first-requires-clause-line g c _ _ =
+pub set_both-done-requires-clause-first_mine : goal.set_both-done-requires-clause-first_mine
+set_both-done-requires-clause-first_mine g c _ _ =
     IsSome-kept c.in_ok-part.ensures.ok c.args.mine 0 c.requires.stays c.requires.first_mine
 
-pub set_byte-second-requires-clause-block : goal.set_byte-second-requires-clause-block
-set_byte-second-requires-clause-block g c _ _ = record {
+pub set_both-done-requires-clause-theirs : goal.set_both-done-requires-clause-theirs
+set_both-done-requires-clause-theirs g c _ _ = record {
   some = (0, IsSome-given c.in_ok-part.ensures.ok c.args.theirs 0 c.requires.goes (c.requires.lines.within c.args.theirs 0 c.requires.goes));
   away = ap (λ (q : Lent). q c.args.theirs) c.in_ok-part.ensures.new_lent;
 }
 
-pub set_byte-second-requires-clause-place : goal.set_byte-second-requires-clause-place
-set_byte-second-requires-clause-place g c _ _ =
-    omega (arith, ap (λ q. q.sizes.block_size) c.in_ok-part.ensures.new_origin, ap (λ q. q.block_size) c.geometry-sizes.ensures.value, c.geometry-sizes.ensures.sizes.block_size)
-
-pub set_byte-second-requires-clause-line : goal.set_byte-second-requires-clause-line
-set_byte-second-requires-clause-line g c _ _ =
+pub set_both-done-requires-clause-first_theirs : goal.set_both-done-requires-clause-first_theirs
+set_both-done-requires-clause-first_theirs g c _ _ =
     IsSome-given c.in_ok-part.ensures.ok c.args.theirs 0 c.requires.goes (c.requires.lines.within c.args.theirs 0 c.requires.goes)
 
 pub merge-requires-clause-lines : goal.merge-requires-clause-lines
 merge-requires-clause-lines g c = record {
-  apart = Apart-Parts c.in_ok-part.ensures.ok c.set_byte-first.ensures.lines c.set_byte-second.ensures.lines;
-  away = c.set_byte-second.ensures.lends ∙ c.in_ok-part.ensures.new_lent;
+  apart = Apart-Parts c.in_ok-part.ensures.ok c.set_both-done.ensures.lines c.set_both-done.ensures.other_lines;
+  away = c.set_both-done.ensures.other_lends ∙ c.in_ok-part.ensures.new_lent;
 }
 
-pub returns-in_err-first : goal.returns-in_err-first
-returns-in_err-first g c =
-    SameLines-trans (SameLines-eq _ _ c.merge.ensures.held) (SameLines-merged c.in_ok-part.ensures.ok c.set_byte-first.ensures.lines c.set_byte-second.ensures.lines)
+pub returns-clause-held : goal.returns-clause-held
+returns-clause-held g c = both-ok c.set_both-done.result c.set_both-done.ensures.held c.set_both-done.ensures.other_held (λ one two. cut-set c.args.mine c.args.theirs 7 9 c.in_ok-part.ensures.ok one two c.requires.first_mine c.requires.stays c.requires.goes c.merge.ensures.held)
 
-pub returns : goal.returns
-returns g c =
-    SameLines-trans (SameLines-eq _ _ c.merge.ensures.held) (SameLines-merged c.in_ok-part.ensures.ok c.set_byte-first.ensures.lines c.set_byte-second.ensures.lines)
+pub returns-clause-kept : goal.returns-clause-kept
+returns-clause-kept g c = both-err c.set_both-done.result c.set_both-done.ensures.kept c.set_both-done.ensures.other_kept (λ one two. cut-first c.args.mine 7 c.in_ok-part.ensures.ok one two c.requires.first_mine c.requires.stays c.merge.ensures.held)
+
+pub returns-clause-cause : goal.returns-clause-cause
+returns-clause-cause g c =
+    merged-reason c.set_both-done.result _ _ _ _ c.part.ensures.faults c.geometry-sizes.ensures.count c.set_both-done.ensures.count c.set_both-done.ensures.cause c.merge.ensures.faults
