@@ -1,7 +1,12 @@
 pub mod Added
+pub mod Caches
 pub mod Chains
 pub mod Counts
+pub mod Flushes
+pub mod FreeNumbers
 pub mod Fronts
+pub mod InodeLines
 pub mod Samples
 pub mod Sound
+pub mod Supers
 pub mod Writes

@@ -1,21 +1,25 @@
 -- The stake of the tests, from which blocks are parted and freed.
-use Rattle.std.proofs.Common.{◌≡◌, ◌≢◌, ◌<◌, ◌≤◌, ◌+◌, ◌*◌, ◌==◌, ◌&&◌, ◌||◌, inl, inr, ℕ, Bool, true, false, cond, List, [], ◌∷◌, ◌++◌, length, get_or, Option, None, IsSome, is_some, nat_le, nat_lt, refl, sym, ap, ◌∙◌, subst, arith, length-append}
+use Rattle.std.proofs.Common.{◌≡◌, ◌≢◌, ◌<◌, ◌≤◌, ◌+◌, ◌*◌, ◌==◌, ◌&&◌, ◌||◌, inl, inr, ℕ, replicate, Bool, true, false, cond, List, [], ◌∷◌, ◌++◌, length, get_or, Option, Some, None, IsSome, is_some, nat_le, nat_lt, refl, sym, ap, ◌∙◌, subst, arith, length-append}
 use Rattle.std.proofs.lemmas.Bool.{false≢true}
 use Rattle.std.proofs.lemmas.Bool.Decides.{nat_tests}
-use Rattle.sv_form.specs.Geometry.{IsDataBlock, IsGeometry, block_lines, super_place, line_number}
+use Rattle.sv_form.specs.Geometry.{IsDataBlock, IsGeometry, block_lines, inode_count, inode_place, super_place, line_number}
 use Rattle.sv_form.specs.OwnerTable.{OwnerTable}
 use Rattle.sv_form.specs.Owners.{owner_of}
 use Rattle.sv_form.specs.declared.geometry.Geometry.{Geometry}
+use Rattle.sv_form.specs.declared.place.Place.{Place}
 use Rattle.sv_form.specs.declared.owners.LineRange.{LineRange}
-use Rattle.sv_store.specs.Held.{Apart, Both, Held, Lent, Origin, SameLines, covers, in_ranges, nothing_lent}
+use Rattle.sv_store.specs.Held.{Apart, Both, Held, Lent, Origin, SameLines, covers, in_ranges, line_of, nothing_lent, of_content, rest}
 use Rattle.sv_store.specs.Calls.{CanPart, Parts}
 use Rattle.sv_store.proofs.Holding.{Apart-Parts, CanPart-range, IsSome-given, IsSome-kept, SameLines-eq, in_range-other, is_some-Both, none_from}
-use Rattle.sv_super.specs.Calls.{CanMount, Frees, Takes, is_free, owned_lines}
-use Rattle.sv_super.specs.Core.{Core, HoldsSuper, alone, left_of, less}
-use Rattle.sv_super.specs.Count.{one_if, sum_below}
+use Rattle.sv_super.specs.Calls.{CanMount, CanMountInodes, Frees, Takes, is_free, owned_lines}
+use Rattle.sv_super.specs.Core.{Core, HoldsSuper, alone, left_of, less, line_alone}
+use Rattle.sv_super.specs.Count.{one_if, sum_below, times}
+use Rattle.sv_super.specs.Inodes.{is_free_inode}
 use Rattle.sv_super.specs.Sample.{IsSource, sample_sizes}
 use Rattle.sv_super.proofs.Chains.{chain-empty}
 use Rattle.sv_super.proofs.Counts.{other, sum-more, times-nil}
+use Rattle.sv_super.proofs.FreeNumbers.{none-free-inode}
+use Rattle.sv_super.proofs.InodeLines.{line_range}
 use Rattle.sv_super.proofs.Sound.{less-other}
 
 pub sample-sizes : IsGeometry sample_sizes
@@ -217,3 +221,57 @@ mount-empty {o} {h} {mine} {theirs} {m} {t} {list} held parts e lent f count own
   each = λ b. times-nil b ∙ sym (ap one_if (none-free t b f owned));
   whole = λ b some. absurd (let q = times-nil b in omega arith);
 }
+
+-- ---- no inode is free
+
+pub mount-no-inodes : {o : Origin} {h : Held} {used : List Bool} {cached : List ℕ} → o.sizes ≡ sample_sizes → used ≡ replicate 32 true → cached ≡ [] → CanMountInodes o h used cached
+mount-no-inodes {o} {h} {used} {cached} e full none = record {
+  lines = record {
+    size = ap length full ∙ sym (ap inode_count e);
+    zeros = λ n free. absurd (false≢true (sym (ap (λ q. is_free_inode q n) full ∙ none-free-inode n 32) ∙ free));
+  };
+  free = λ n some. absurd (let q = ap (times n) none in let z = times-nil n in omega arith);
+  once = λ n. (let q = ap (times n) none in let z = times-nil n in omega arith);
+}
+
+-- as many are left where all are in one order
+pub order-left : {S : Type 0} (old new : Core S) → new.aside ++ new.chain ≡ old.aside ++ old.chain → left_of new ≡ left_of old
+order-left {S} old new e =
+    let one = length-append new.aside new.chain in
+    let two = length-append old.aside old.chain in
+    let three = ap length e in
+    omega (arith, one, two, three)
+
+-- ---- the line of inode 3
+
+pub zero-content : (g : Geometry) (xs : List (List ℕ)) → g ≡ sample_sizes → 2 < length xs → get_or xs 2 [] ≡ replicate 1024 0 → of_content g xs 2 2 ≡ Some (replicate 64 0)
+unfolding of_content line_of
+zero-content g xs e some zeros =
+    ap (λ q. cond (q && nat_lt (2 * 64) g.block_size) (Some (line_of (get_or xs 2 []) 2)) None) (lt 2 (length xs) some)
+    ∙ (ap (λ q. cond (nat_lt (2 * 64) q.block_size) (Some (line_of (get_or xs 2 []) 2)) None) e ∙ ap (λ q. Some (line_of q 2)) zeros)
+  where
+    lt : (x y : ℕ) → x < y → nat_lt x y ≡ true
+    lt x y h = grind (nat_tests, arith)
+
+-- the place of inode 3
+abbrev pub third : Place
+third = record { block = 2; line = 2 }
+
+pub third-place : {g : Geometry} → g ≡ sample_sizes → inode_place g 3 ≡ third
+third-place e = ap (λ q. inode_place q 3) e
+
+pub third-part : {h : Held} {m : Lent} → h 2 2 ≡ Some (replicate 64 0) → IsSome (h 1 0) → m ≡ nothing_lent → CanPart h m (line_range third ∷ [])
+third-part {h} {m} is more lent =
+    CanPart-range h m (line_range third) (λ l low high. (let e : l ≡ 2 = omega arith in ap (λ q. is_some (h 2 q)) e ∙ ap is_some is)) (ap (λ q. q 2) lent) (omega arith) 1 0 more (λ same. absurd (omega (arith, same)))
+
+pub line-apart : {h k part : Held} (p : Place) → Apart h k → part ≡ line_alone p k → Apart h part
+unfolding line_alone
+line-apart {h} {k} {part} p away is = record { at = λ c l some. ap (λ q. q c l) is ∙ by ((c == p.block) && (l == p.line)) (k c l) (away.at c l some) }
+  where
+    by : (t : Bool) (q : Option (List ℕ)) → q ≡ None → cond t q None ≡ None
+    by true q e = e
+    by false q e = refl
+
+pub line-kept : {h mine theirs : Held} {x : List ℕ} → Parts h (super_range ∷ []) mine theirs → h 2 2 ≡ Some x → mine 2 2 ≡ Some x
+unfolding rest
+line-kept {h} {mine} {theirs} {x} parts is = ap (λ q. q 2 2) parts.kept ∙ (ap (λ t. cond t None (h 2 2)) (in_range-other super_range 2 2 (λ same. absurd (omega (arith, same)))) ∙ is)

@@ -45,7 +45,7 @@ sound-less {o} {h} {h'} {m} {m'} {f} f' b sizes sound count cut lent = record {
         let zeroth : (super_place o.sizes).block ≡ 0 = ap (λ n. 512 / n) sizes.block_size in
         absurd (omega (arith, sym same ∙ zeroth, is.least, sizes.least_first))
 
-split-last : (xs : List ℕ) (n b : ℕ) → n + 1 ≡ length xs → get_or xs n 0 ≡ b → xs ≡ take n xs ++ b ∷ []
+pub split-last : (xs : List ℕ) (n b : ℕ) → n + 1 ≡ length xs → get_or xs n 0 ≡ b → xs ≡ take n xs ++ b ∷ []
 split-last [] n b e at = absurd (omega arith)
 split-last (x ∷ xs) zero b e at = one xs (omega (arith, e)) at
   where

@@ -1,15 +1,14 @@
 -- What each call of a core asks, and what it gives.
-use Rattle.std.specs.Prelude.{◌≡◌, ◌≤◌, ◌<◌, ◌==◌, ◌&&◌, ◌++◌, ◌⊎◌, ℕ, Bool, List, [], ◌∷◌, Result, IsErrOf, nat_le, nat_lt}
+use Rattle.std.specs.Prelude.{◌≡◌, ◌≤◌, ◌<◌, ◌-◌, ◌==◌, ◌&&◌, ◌++◌, ◌⊎◌, ℕ, Bool, true, List, [], ◌∷◌, Some, length, replicate, slice_index, nat_le, nat_lt}
 use Rattle.sv_dev.specs.Causes.{Rose}
-use Rattle.sv_form.specs.Geometry.{block_lines}
+use Rattle.sv_form.specs.Geometry.{IsNumber, block_lines, inode_place}
 use Rattle.sv_form.specs.OwnerTable.{OwnerTable, IsOwnerTable}
 use Rattle.sv_form.specs.Owners.{owner_of}
 use Rattle.sv_store.specs.Held.{Held, Lent, Origin, HoldsBlock, nothing_lent, put}
-use Rattle.sv_store.specs.declared.refusal.Refusal.{Refusal}
-use Rattle.sv_store.specs.declared.refusal.Refusal.TheVariants.{Fault}
-use Rattle.sv_super.specs.Core.{Core, HoldsSuper}
+use Rattle.sv_super.specs.Core.{Core, HoldsInodes, HoldsSuper, line_alone, line_less}
 use Rattle.sv_super.specs.Count.{one_if, sum_below, times}
 use Rattle.sv_super.specs.FreeList.{HasList, IsChain, IsNext, after}
+use Rattle.sv_super.specs.Inodes.{Inodes, filled, is_free_inode, without_last}
 
 -- ---- the mount
 
@@ -32,6 +31,13 @@ pub record CanMount (o : Origin) (h : Held) (m : Lent) (t : OwnerTable) (list : 
   pub chain : IsChain h list order
   pub each : (b : ℕ) → times b order ≡ one_if (is_free t b)
   pub whole : (b : ℕ) → 0 < times b order → HoldsBlock o h b
+
+-- the map has a place for each inode, the stake holds the lines of the free ones, which are zero bytes, and the cached
+-- numbers are free, each once
+pub record CanMountInodes (o : Origin) (h : Held) (used : List Bool) (cached : List ℕ) : Type 0 where
+  pub lines : HoldsInodes o h used
+  pub free : (n : ℕ) → 0 < times n cached → is_free_inode used n ≡ true
+  pub once : (n : ℕ) → times n cached ≤ 1
 
 -- ---- a block is taken
 
@@ -65,6 +71,19 @@ pub record SetsAside {S : Type 0} (before now : ℕ) (old new : Core S) (b : ℕ
 abbrev pub Frees : {S : Type 0} → ℕ → ℕ → Core S → Core S → ℕ → Type 0
 Frees before now old new b = Chains old new b ⊎ SetsAside before now old new b
 
+-- ---- an inode is taken
+
+-- it is an inode's number, free, and the last of the cache that was filled where it was empty; its line is cut off, and is
+-- zero bytes
+pub record TakesInode (o : Origin) (h h' part : Held) (old new : Inodes) (n : ℕ) : Type 0 where
+  pub number : IsNumber o.sizes n
+  pub free : is_free_inode old.used n ≡ true
+  pub last : n ≡ slice_index (filled old).cached (length (filled old).cached - 1)
+  pub inodes : new ≡ without_last (filled old)
+  pub mine : h' ≡ line_less (inode_place o.sizes n) h
+  pub theirs : part ≡ line_alone (inode_place o.sizes n) h
+  pub zeros : part (inode_place o.sizes n).block (inode_place o.sizes n).line ≡ Some (replicate 64 0)
+
 -- ---- writes
 
 -- the list stands in block b, and no other block has changed
@@ -79,10 +98,3 @@ pub record Links (old new : Held) (list list' : List ℕ) (b : ℕ) : Type 0 whe
   pub then : after new list' ≡ list
   pub bytes : List ℕ
   pub puts : (new ≡ old) ⊎ (new ≡ put b bytes old)
-
--- ---- causes
-
--- the count did not fall, and a fault is answered only where it rose; want of memory needs no cause
-pub record HasReason {T : Type 0} (before now : ℕ) (result : Result T Refusal) : Type 0 where
-  pub no_less : before ≤ now
-  pub rose : IsErrOf result Fault → Rose before now

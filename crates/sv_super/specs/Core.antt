@@ -1,17 +1,28 @@
--- The free blocks, as they are seen from above.
-use Rattle.std.specs.Prelude.{◌≡◌, ◌≤◌, ◌<◌, ◌+◌, ◌==◌, ℕ, List, length, None, IsSome, if◌then◌else◌}
-use Rattle.sv_form.specs.Geometry.{IsDataBlock, super_place}
+-- The free blocks and inodes, as they are seen from above.
+use Rattle.std.specs.Prelude.{◌≡◌, ◌≤◌, ◌<◌, ◌+◌, ◌==◌, ◌&&◌, ℕ, Bool, true, List, length, replicate, Some, None, IsSome, if◌then◌else◌}
+use Rattle.sv_form.specs.Geometry.{IsDataBlock, inode_count, inode_place, super_place}
+use Rattle.sv_form.specs.declared.place.Place.{Place}
 use Rattle.sv_store.specs.Held.{Held, Lent, Origin, HoldsBlock, nothing_lent}
 use Rattle.sv_super.specs.Count.{times}
 use Rattle.sv_super.specs.FreeList.{IsChain, taken}
+use Rattle.sv_super.specs.Inodes.{Inodes, is_free_inode}
+
+-- what the superblock says of the image's sizes
+pub record Head : Type 0 where
+  pub block_type : ℕ
+  pub first_data : ℕ
+  pub blocks : ℕ
 
 -- What a core is: its stake; the blocks of the chain, in the order in which they are taken; those that were set aside, of
--- which the last is taken first; and how many more can be set aside without memory.
+-- which the last is taken first; how many more can be set aside without memory; the inodes; and what
+-- the superblock says of the sizes.
 pub record Core (S : Type 0) : Type 0 where
   pub stake : S
   pub chain : List ℕ
   pub aside : List ℕ
   pub spare : ℕ
+  pub inodes : Inodes
+  pub head : Head
 
 -- how many blocks are free
 abbrev pub left_of : {S : Type 0} → Core S → ℕ
@@ -40,9 +51,26 @@ pub record IsKept (o : Origin) (h : Held) (m : Lent) (list : List ℕ) (chained 
   pub chain : IsChain h list (taken chained h list)
   pub fits : length aside + spare ≤ room
 
+-- each inode has a place in the map, and the line of each free one is held and zero bytes
+pub record HoldsInodes (o : Origin) (h : Held) (used : List Bool) : Type 0 where
+  pub size : length used ≡ inode_count o.sizes
+  pub zeros : (n : ℕ) → is_free_inode used n ≡ true → h (inode_place o.sizes n).block (inode_place o.sizes n).line ≡ Some (replicate 64 0)
+
+-- what is kept of blocks and of inodes
+pub record IsCore (o : Origin) (h : Held) (m : Lent) (list : List ℕ) (chained : ℕ) (aside : List ℕ) (spare room : ℕ) (used : List Bool) : Type 0 where
+  pub blocks : IsKept o h m list chained aside spare room
+  pub inodes : HoldsInodes o h used
+
 -- the lines of block b alone, and those of all others
 unfoldable pub alone : ℕ → Held → Held
 alone b h = λ c l. if c == b then h c l else None
 
 unfoldable pub less : ℕ → Held → Held
 less b h = λ c l. if c == b then None else h c l
+
+-- the line at a place alone, and all others
+unfoldable pub line_alone : Place → Held → Held
+line_alone p h = λ c l. if (c == p.block) && (l == p.line) then h c l else None
+
+unfoldable pub line_less : Place → Held → Held
+line_less p h = λ c l. if (c == p.block) && (l == p.line) then None else h c l

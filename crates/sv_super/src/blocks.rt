@@ -1,13 +1,18 @@
-// The free blocks.
+// The free blocks, and the core that holds them.
 ghost use Rattle.std.specs.Prelude.{◌≡◌, ◌≢◌, ◌≤◌, ◌<◌, ◌+◌, ◌||◌, ◌∷◌, ℕ, max, false, IfOk, IfErr, OnOk, OnErr, length};
 ghost use Rattle.sv_dev.specs.Causes.{counted};
 ghost use Rattle.sv_form.specs.Geometry.{IsDataBlock};
+ghost use Rattle.sv_store.specs.Causes.{HasReason};
 ghost use Rattle.sv_store.specs.Held.{Apart, Both, HoldsBlock, SameLines, nothing_lent};
-ghost use Rattle.sv_super.specs.Calls.{CanMount, Frees, HasReason, Takes, TakesAside, TakesChained};
+ghost use Rattle.sv_super.specs.Calls.{CanMount, CanMountInodes, Frees, Takes, TakesAside, TakesChained};
 ghost use Rattle.sv_super.specs.Core.{IsSound, alone, free_times, left_of, less};
 ghost use Rattle.sv_super.specs.FreeList.{IsChain};
 
+mod flush;
+mod inode_lines;
+
 use crate::chain::{cut_block, first_of, link, next_of};
+use crate::inodes::FreeInodes;
 use crate::mounted::count_free;
 use std::alloc::Global;
 use std::marker::Model;
@@ -15,47 +20,64 @@ use std::sync::Wait;
 use sv_form::{LinkBlock, Mounted};
 use sv_store::{NoMemory, Refusal, Stake};
 
-/// The free blocks, with the stake that holds their lines and the superblock's (Bach, chapter 4.7).
+/// The free blocks and inodes, with the stake that holds their lines and the superblock's (Bach, chapters 4.6 and 4.7).
 ///
 /// A contract sees the blocks in the order in which they are handed out: first those set aside, the last of them first,
-/// then the chain.
+/// then the chain. It sees the inodes as the map of those in use, the cached numbers, and the remembered one; and the sizes
+/// that the superblock names.
 pub struct SuperCore<S: Stake> {
     stake: S,
     list: LinkBlock,
     chained: u32,
     aside: Vec<u32>,
     spare: u32,
+    inodes: FreeInodes,
+    block_type: u16,
+    first_data: u16,
+    blocks: u32,
 }
 
 impl<S: Stake> Model for SuperCore<S> {
-    ghost use Rattle.sv_super.specs.Core.{Core, IsKept};
+    ghost use Rattle.sv_super.specs.Core.{Core, IsCore};
     ghost use Rattle.sv_super.specs.FreeList.{taken};
     ghost use Rattle.std.specs.Prelude.{vec_capacity};
 
     ghost Value = { Core S };
 
-    ghost view = { λ c. record { stake = c.stake; chain = taken c.chained (S.held c.stake) c.list.numbers.items; aside = c.aside.items; spare = c.spare } };
+    ghost view = { λ c. record { stake = c.stake; chain = taken c.chained (S.held c.stake) c.list.numbers.items; aside = c.aside.items; spare = c.spare; inodes = c.inodes; head = record { block_type = c.block_type; first_data = c.first_data; blocks = c.blocks } } };
 
-    ghost invariant = { λ c. IsKept (S.origin c.stake) (S.held c.stake) (S.lent c.stake) c.list.numbers.items c.chained c.aside.items c.spare (vec_capacity c.aside) };
+    ghost invariant = { λ c. IsCore (S.origin c.stake) (S.held c.stake) (S.lent c.stake) c.list.numbers.items c.chained c.aside.items c.spare (vec_capacity c.aside) c.inodes.used };
 }
 
 impl<S: Stake> SuperCore<S> {
-    /// The free blocks of an image that was checked. Without memory the stake comes back as it was.
+    /// The free blocks and inodes of an image that was checked. Without memory the stake comes back as it was.
     pub fn new(alloc: Global, stake: S, mounted: &Mounted) -> Result<SuperCore<S>, (S, NoMemory)>
-        requires { CanMount (S.origin stake) (S.held stake) (S.lent stake) mounted.now.owners mounted.now.head.free.items }
+        requires blocks { CanMount (S.origin stake) (S.held stake) (S.lent stake) mounted.now.owners mounted.now.head.free.items }
+        requires inodes { CanMountInodes (S.origin stake) (S.held stake) mounted.now.used.items mounted.now.head.inodes.items }
         ensures stake { IfOk result (λ core. core.stake ≡ stake) }
         ensures chain { IfOk result (λ core. IsChain (S.held stake) mounted.now.head.free.items core.chain) }
         ensures aside { IfOk result (λ core. length core.aside ≡ 0) }
         ensures spare { IfOk result (λ core. core.spare ≡ 0) }
+        ensures inodes { IfOk result (λ core. core.inodes ≡ record { used = mounted.now.used.items; cached = mounted.now.head.inodes.items; remembered = 2 }) }
+        ensures head { IfOk result (λ core. core.head ≡ record { block_type = mounted.now.head.block_type; first_data = mounted.now.head.first_data; blocks = mounted.now.head.blocks }) }
         ensures back { IfErr result (λ refused. refused.0 ≡ stake) }
     {
         let sizes = stake.geometry();
+        let used = mounted.used.as_slice();
+        let cached = mounted.head.inodes.as_slice();
+        let Ok(inodes) = FreeInodes::new(alloc, used, cached) else {
+            return Err((stake, NoMemory));
+        };
         let list = mounted.head.free.as_slice();
         Ok(SuperCore {
             list: first_of(list, list.len()),
             chained: count_free(sizes, &mounted.owners),
             aside: Vec::new(alloc),
             spare: 0,
+            inodes,
+            block_type: mounted.head.block_type,
+            first_data: mounted.head.first_data,
+            blocks: mounted.head.blocks,
             stake,
         })
     }
@@ -86,6 +108,8 @@ impl<S: Stake> SuperCore<S> {
         ensures chain { OnErr result (self.new.chain ≡ self.old.chain) }
         ensures aside { OnErr result (self.new.aside ≡ self.old.aside) }
         ensures spare { self.new.spare ≡ self.old.spare }
+        ensures inodes { self.new.inodes ≡ self.old.inodes }
+        ensures head { self.new.head ≡ self.old.head }
         ensures lends { S.lent self.new.stake ≡ nothing_lent }
         ensures forced { S.forced self.new.stake ≡ S.forced self.old.stake }
         ensures origin { S.origin self.new.stake ≡ S.origin self.old.stake }
@@ -114,6 +138,8 @@ impl<S: Stake> SuperCore<S> {
         ensures chain { OnErr result (self.new.chain ≡ self.old.chain) }
         ensures aside { OnErr result (self.new.aside ≡ self.old.aside) }
         ensures spare { self.new.spare ≡ self.old.spare }
+        ensures inodes { self.new.inodes ≡ self.old.inodes }
+        ensures head { self.new.head ≡ self.old.head }
         ensures lends { S.lent self.new.stake ≡ nothing_lent }
         ensures forced { S.forced self.new.stake ≡ S.forced self.old.stake }
         ensures origin { S.origin self.new.stake ≡ S.origin self.old.stake }
@@ -143,6 +169,8 @@ impl<S: Stake> SuperCore<S> {
         ensures chain { OnErr result (self.new.chain ≡ self.old.chain) }
         ensures aside { self.new.aside ≡ self.old.aside }
         ensures spare { self.new.spare ≡ self.old.spare }
+        ensures inodes { self.new.inodes ≡ self.old.inodes }
+        ensures head { self.new.head ≡ self.old.head }
         ensures lends { S.lent self.new.stake ≡ nothing_lent }
         ensures forced { S.forced self.new.stake ≡ S.forced self.old.stake }
         ensures origin { S.origin self.new.stake ≡ S.origin self.old.stake }
@@ -161,6 +189,8 @@ impl<S: Stake> SuperCore<S> {
         ensures stake { self.new.stake ≡ self.old.stake }
         ensures chain { self.new.chain ≡ self.old.chain }
         ensures aside { self.new.aside ≡ self.old.aside }
+        ensures inodes { self.new.inodes ≡ self.old.inodes }
+        ensures head { self.new.head ≡ self.old.head }
         ensures ok { OnOk result (self.new.spare ≡ max self.old.spare n) }
         ensures err { OnErr result (self.new.spare ≡ self.old.spare) }
     {
@@ -183,6 +213,8 @@ impl<S: Stake> SuperCore<S> {
         requires origin { S.origin part ≡ S.origin self.old.stake }
         ensures block { Frees (counted (S.faults self.old.stake) (S.faults part)) (S.faults self.new.stake) self.old self.new b }
         ensures spare { self.new.spare + 1 ≡ self.old.spare }
+        ensures inodes { self.new.inodes ≡ self.old.inodes }
+        ensures head { self.new.head ≡ self.old.head }
         ensures lines { SameLines (S.held self.new.stake) (Both (S.held self.old.stake) (S.held part)) }
         ensures others { (c l : ℕ) → c ≢ b → S.held self.new.stake c l ≡ Both (S.held self.old.stake) (S.held part) c l }
         ensures lends { S.lent self.new.stake ≡ nothing_lent }
@@ -211,6 +243,10 @@ impl<S: Stake> SuperCore<S> {
             chained: _,
             aside: _,
             spare: _,
+            inodes: _,
+            block_type: _,
+            first_data: _,
+            blocks: _,
         } = self;
         stake
     }

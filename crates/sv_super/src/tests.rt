@@ -1,5 +1,5 @@
 // A core over a stake in memory. Its blocks are freed from the last down, which is how the chain of a new image is made.
-ghost use Rattle.std.specs.Prelude.{◌≡◌, ◌≢◌, ◌≤◌, ◌<◌, ◌+◌, ◌*◌, ◌∷◌, [], ℕ, IfOk, IfErr, OnOk, IsSome, None, length, slice_index};
+ghost use Rattle.std.specs.Prelude.{◌≡◌, ◌≢◌, ◌≤◌, ◌<◌, ◌+◌, ◌*◌, ◌∷◌, [], ℕ, IfOk, IfErr, OnOk, IsSome, Some, None, length, replicate, slice_index, true};
 ghost use Rattle.std.specs.List.{All};
 ghost use Rattle.sv_form.specs.Geometry.{IsDataBlock};
 ghost use Rattle.sv_store.specs.Held.{Apart, HoldsBlock, nothing_lent};
@@ -28,6 +28,7 @@ const FREE: u32 = 59;
 fn zero_blocks(alloc: Global) -> Result<Vec<Vec<u8>>, NoMemory>
     ensures count { IfOk result (λ blocks. length blocks.items ≡ 64) }
     ensures bytes { IfOk result (λ blocks. All (λ bytes. length bytes.items ≡ 1024) blocks.items) }
+    ensures zeros { IfOk result (λ blocks. All (λ bytes. bytes.items ≡ replicate 1024 0) blocks.items) }
 {
     let mut blocks = Vec::new(alloc);
     for _block in 0..64usize {
@@ -37,14 +38,17 @@ fn zero_blocks(alloc: Global) -> Result<Vec<Vec<u8>>, NoMemory>
     Ok(blocks)
 }
 
-// What the check leaves of an image of which every line belongs to an inode.
+// What the check leaves of an image of which every line belongs to an inode, and each inode is used.
 fn mounted(alloc: Global) -> Result<Mounted, NoMemory>
     ensures geometry { IfOk result (λ m. m.owners.geometry ≡ sample_sizes) }
     ensures count { IfOk result (λ m. length m.owners.owners ≡ 1024) }
     ensures owners { IfOk result (λ m. (k : ℕ) → k < 1024 → slice_index m.owners.owners k ≡ 2) }
     ensures list { IfOk result (λ m. m.head.free.items ≡ 0 ∷ []) }
+    ensures used { IfOk result (λ m. m.used.items ≡ replicate 32 true) }
+    ensures inodes { IfOk result (λ m. m.head.inodes.items ≡ []) }
 {
     let owner = vec![in alloc; 2u16; 1024]?;
+    let used = vec![in alloc; true; 32]?;
     let mut free = ArrayVec::new();
     free.push(0);
     let head = Super {
@@ -58,7 +62,7 @@ fn mounted(alloc: Global) -> Result<Mounted, NoMemory>
         geometry: SIZES,
         head,
         owners: Owners::from_vec(SIZES, owner),
-        used: Vec::new(alloc),
+        used,
     })
 }
 
@@ -164,9 +168,62 @@ fn freed_again<R: Wait, S: Stake + Drop>(
     Ok((first, before, after, next))
 }
 
+// All blocks are freed, and the core is flushed: whether it failed, how many are left before that and after it, and the
+// next two blocks.
+fn flushed<R: Wait, S: Stake + Drop>(
+    rt: &R,
+    alloc: Global,
+    core: &mut SuperCore<S>,
+    source: &mut S,
+) -> Result<(bool, u32, u32, u64), Refusal>
+    requires source { IsSource (S.origin core.old.stake) (S.held core.old.stake) (S.origin source.old) (S.held source.old) (S.lent source.old) 64 }
+{
+    free_all(rt, alloc, core, source)?;
+    let before = core.left();
+    let failed = core.flush(rt).is_err();
+    let after = core.left();
+    let next = take(rt, alloc, core, 2)?;
+    Ok((failed, before, after, next))
+}
+
+// The number of the next inode.
+fn first_inode<S: Stake + Drop>(
+    alloc: Global,
+    core: &mut SuperCore<S>,
+) -> Result<Option<u16>, Refusal> {
+    match core.ialloc(alloc)? {
+        Some((n, _part)) => Ok(Some(n)),
+        None => Ok(None),
+    }
+}
+
+// Inode 3 is freed: how many are free then, and the next two that are handed out.
+fn inode_freed<S: Stake + Drop>(
+    alloc: Global,
+    core: &mut SuperCore<S>,
+    source: &mut S,
+) -> Result<(u32, Option<u16>, Option<u16>), Refusal>
+    requires source { IsSource (S.origin core.old.stake) (S.held core.old.stake) (S.origin source.old) (S.held source.old) (S.lent source.old) 64 }
+    requires used { core.old.inodes.used ≡ replicate 32 true }
+    requires line { S.held source.old 2 2 ≡ Some (replicate 64 0) }
+{
+    let lines = [LineRange {
+        block: 2,
+        first: 2,
+        count: 1,
+    }];
+    let part = source.part(alloc, &lines)?;
+    core.ifree(3, part);
+    let left = core.inodes_left();
+    let first = first_inode(alloc, core)?;
+    let second = first_inode(alloc, core)?;
+    Ok((left, first, second))
+}
+
 // A stake of 64 blocks, in whose parts one call fails.
 fn whole_stake(alloc: Global, failing: u64) -> Result<OwnStake, NoMemory>
     ensures held { IfOk result (λ s. (b l : ℕ) → b < 64 → l < 16 → IsSome (⟦<OwnStake as Stake>⟧.held s b l)) }
+    ensures line { IfOk result (λ s. ⟦<OwnStake as Stake>⟧.held s 2 2 ≡ Some (replicate 64 0)) }
     ensures lent { IfOk result (λ s. ⟦<OwnStake as Stake>⟧.lent s ≡ nothing_lent) }
     ensures sizes { IfOk result (λ s. (⟦<OwnStake as Stake>⟧.origin s).sizes ≡ sample_sizes) }
 {
@@ -185,7 +242,10 @@ fn empty_core<S: Stake>(
     requires held { (b l : ℕ) → b < 64 → l < 16 → IsSome (S.held source.old b l) }
     requires lent { S.lent source.old ≡ nothing_lent }
     requires sizes { (S.origin source.old).sizes ≡ sample_sizes }
-    ensures { IfOk result (λ made. IfOk made (λ core. IsSource (S.origin core.stake) (S.held core.stake) (S.origin source.new) (S.held source.new) (S.lent source.new) 64)) }
+    requires line { S.held source.old 2 2 ≡ Some (replicate 64 0) }
+    ensures source { IfOk result (λ made. IfOk made (λ core. IsSource (S.origin core.stake) (S.held core.stake) (S.origin source.new) (S.held source.new) (S.lent source.new) 64)) }
+    ensures used { IfOk result (λ made. IfOk made (λ core. core.inodes.used ≡ replicate 32 true)) }
+    ensures line { OnOk result (S.held source.new 2 2 ≡ Some (replicate 64 0)) }
 {
     let lines = [LineRange {
         block: 0,
@@ -223,6 +283,49 @@ fn run_again<R: Wait>(
         }
         Err(_) => Err(Refusal::NoMemory),
     }
+}
+
+fn run_flushed<R: Wait>(
+    rt: &R,
+    alloc: Global,
+    failing: u64,
+) -> Result<(bool, u32, u32, u64), Refusal> {
+    let mut source = whole_stake(alloc, failing)?;
+    match empty_core(alloc, &mut source)? {
+        Ok(mut core) => {
+            let rows = flushed(rt, alloc, &mut core, &mut source);
+            let _stake = core.give_up();
+            rows
+        }
+        Err(_) => Err(Refusal::NoMemory),
+    }
+}
+
+fn run_inode(alloc: Global) -> Result<(u32, Option<u16>, Option<u16>), Refusal> {
+    let mut source = whole_stake(alloc, 0)?;
+    match empty_core(alloc, &mut source)? {
+        Ok(mut core) => {
+            let rows = inode_freed(alloc, &mut core, &mut source);
+            let _stake = core.give_up();
+            rows
+        }
+        Err(_) => Err(Refusal::NoMemory),
+    }
+}
+
+#[test]
+fn an_inode_that_was_freed_is_handed_out(rt: HostRuntime) -> Result<(), Fail> {
+    assert_eq!(rt; run_inode(rt.alloc()), Ok((1, Some(3), None)));
+    Ok(())
+}
+
+#[test]
+fn a_flush_links_what_was_set_aside_and_loses_no_block(rt: HostRuntime) -> Result<(), Fail> {
+    assert_eq!(rt; run_flushed(&rt, rt.alloc(), 0), Ok((false, 59, 59, 506)));
+    assert_eq!(rt; run_flushed(&rt, rt.alloc(), 1), Ok((false, 59, 59, 1405)));
+    assert_eq!(rt; run_flushed(&rt, rt.alloc(), 2), Ok((true, 59, 59, 506)));
+    assert_eq!(rt; run_flushed(&rt, rt.alloc(), 3), Ok((false, 59, 59, 506)));
+    Ok(())
 }
 
 #[test]

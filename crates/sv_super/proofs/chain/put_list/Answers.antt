@@ -6,7 +6,8 @@ use Rattle.sv_form.specs.Geometry.{IsGeometry}
 use Rattle.sv_form.specs.LinkBlock.{IsLinkBlock}
 use Rattle.sv_form.specs.declared.geometry.Geometry.{Geometry}
 use Rattle.sv_store.specs.Held.{nothing_lent}
-use Rattle.sv_super.proofs.Writes.{CanPut-whole, back, holds-put, lent-at, lent-with, puts-list, refilled}
+use Rattle.sv_store.proofs.Puts.{CanPut-whole, back, holds-put, lent-at, lent-with, refilled}
+use Rattle.sv_super.proofs.Writes.{puts-list}
 use Rattle.sv_super.proofs.chain.put_list.Goals as goal
 
 pub bdwrite-requires : goal.bdwrite-requires

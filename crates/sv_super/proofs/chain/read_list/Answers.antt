@@ -4,7 +4,7 @@ use Rattle.sv_form.specs.LinkBlock.{IsLinkBlock}
 use Rattle.sv_store.proofs.Holding.{CanReturn-got}
 use Rattle.sv_super.specs.FreeList.{list_of}
 use Rattle.sv_super.proofs.Fronts.{block_list, got-front, read-is}
-use Rattle.sv_super.proofs.Writes.{back, lent-with}
+use Rattle.sv_store.proofs.Puts.{back, lent-with}
 use Rattle.sv_super.proofs.chain.read_list.Goals as goal
 
 pub list_in-list-requires-clause-list : goal.list_in-list-requires-clause-list

@@ -9,13 +9,13 @@ use Rattle.sv_super.proofs.blocks.SuperCore.left.Goals as goal
 pub overflow_cast-result : goal.overflow_cast-result
 overflow_cast-result g c =
     let sizes = (let P : Geometry → Type 0 = IsGeometry in subst P c.geometry-sizes.ensures.value c.geometry-sizes.ensures.sizes) in
-    let few = kept-few sizes c.self.invariant in
+    let few = kept-few sizes c.self.invariant.blocks in
     omega (arith, few, sizes.most_blocks, c.len.ensures, c.self.inside.aside.ok.0)
 
 pub overflow_add-result : goal.overflow_add-result
 overflow_add-result g c =
     let sizes = (let P : Geometry → Type 0 = IsGeometry in subst P c.geometry-sizes.ensures.value c.geometry-sizes.ensures.sizes) in
-    let few = kept-few sizes c.self.invariant in
+    let few = kept-few sizes c.self.invariant.blocks in
     omega (arith, few, sizes.most_blocks, c.len.ensures, c.self.inside.aside.ok.0)
 
 pub returns-clause-left : goal.returns-clause-left

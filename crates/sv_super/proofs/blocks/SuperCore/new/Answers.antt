@@ -1,12 +1,15 @@
 -- The chain of the mounted image names the free blocks, each once.
-use Rattle.std.proofs.Common.{length, take, ap, ◌∙◌, vec_capacity}
+use Rattle.std.proofs.Common.{Bool, List, length, take, sym, ap, ◌∙◌, subst, vec_capacity}
+use Rattle.sv_super.specs.Core.{HoldsInodes}
 use Rattle.sv_super.proofs.Sound.{kept-new}
 use Rattle.sv_super.proofs.blocks.SuperCore.new.Goals as goal
 
 pub invariant_of-result : goal.invariant_of-result
-invariant_of-result g c =
-    (kept-new {room = vec_capacity c.new.result} c.requires (c.first_of.ensures ∙ ap (take (length c.as_slice-list.result.now)) c.as_slice-list.ensures.value) (ap length c.as_slice-list.ensures.value) c.geometry-sizes.result c.geometry-sizes.ensures.value c.count_free.ensures c.new.ensures.items).0
+invariant_of-result g c = record {
+  blocks = (kept-new {room = vec_capacity c.new-2.result} c.requires.blocks (c.first_of.ensures ∙ ap (take (length c.as_slice-list.result.now)) c.as_slice-list.ensures.value) (ap length c.as_slice-list.ensures.value) c.geometry-sizes.result c.geometry-sizes.ensures.value c.count_free.ensures c.new-2.ensures.items).0;
+  inodes = (let P : List Bool → Type 0 = λ q. HoldsInodes (g.S.Stake.origin c.args.stake) (g.S.Stake.held c.args.stake) q in subst P (sym (ap (λ q. q.used) c.in-Ok.ensures ∙ c.as_slice-used.ensures.value)) c.requires.inodes.lines);
+}
 
 pub returns-clause-chain : goal.returns-clause-chain
 returns-clause-chain g c =
-    (kept-new {room = vec_capacity c.new.result} c.requires (c.first_of.ensures ∙ ap (take (length c.as_slice-list.result.now)) c.as_slice-list.ensures.value) (ap length c.as_slice-list.ensures.value) c.geometry-sizes.result c.geometry-sizes.ensures.value c.count_free.ensures c.new.ensures.items).1
+    (kept-new {room = vec_capacity c.new-2.result} c.requires.blocks (c.first_of.ensures ∙ ap (take (length c.as_slice-list.result.now)) c.as_slice-list.ensures.value) (ap length c.as_slice-list.ensures.value) c.geometry-sizes.result c.geometry-sizes.ensures.value c.count_free.ensures c.new-2.ensures.items).1

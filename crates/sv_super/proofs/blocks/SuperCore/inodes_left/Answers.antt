@@ -1,0 +1,7 @@
+-- The lines are those of the free inodes.
+use Rattle.std.proofs.Common.{subst}
+use Rattle.sv_super.specs.Core.{Core, HoldsInodes}
+use Rattle.sv_super.proofs.blocks.SuperCore.inodes_left.Goals as goal
+
+pub returns-clause-lines : goal.returns-clause-lines
+returns-clause-lines g c = (let P : Core g.row.S.Denot → Type 0 = λ v. HoldsInodes (g.S.Stake.origin v.stake) (g.S.Stake.held v.stake) v.inodes.used in subst P c.self.view_is c.self.invariant.inodes)
