@@ -6,13 +6,14 @@ use Rattle.sv_check.specs.declared.met.Met.{Met}
 use Rattle.sv_check.specs.declared.fault.CheckFault.{CheckFault}
 use Rattle.sv_check.specs.declared.fault.CheckFault.TheVariants.{Refused, Fault, NoMemory}
 use Rattle.sv_check.specs.Chain.{chain_flaw, lost_flaw}
-use Rattle.sv_check.specs.Directories.{root_flaw}
+use Rattle.sv_check.specs.Directories.{dots_flaw, entry_flaw, root_flaw}
 use Rattle.sv_check.specs.Fault.{Says}
 use Rattle.sv_check.specs.InodeCache.{cache_flaw}
 use Rattle.sv_check.specs.InodeList.{kind_flaw, size_flaw}
+use Rattle.sv_check.specs.Links.{links_flaw}
 use Rattle.sv_check.specs.PastSize.{past_size_flaw, tail_flaw}
 use Rattle.sv_check.specs.Sizes.{IsSized}
-use Rattle.sv_check.specs.Sound.{Flaw, IsChained, IsWalked, first_failing, flaws_from_4, flaw_from_4}
+use Rattle.sv_check.specs.Sound.{Flaw, IsChained, IsEntered, IsRooted, IsSound, IsWalked, first_failing, flaws_from_4, flaw_from_4}
 use Rattle.sv_check.specs.Walk.{BadFlaw, is_data_block, first_bad, nothing_met, walk, range_flaw, twice_flaw}
 
 holds : (n : ℕ) (flaw : Option ℕ) (rest : List (Option ℕ)) → flaw ≡ None → first_failing n (flaw ∷ rest) ≡ first_failing (n + 1) rest
@@ -76,6 +77,24 @@ module _ (image : List ℕ) (c : IsChained image) where
 
   pub fails_13 : (p : ℕ) → cache_flaw (geometry_of image) image ≡ None → root_flaw (geometry_of image) image ≡ Some p → Flaw image 13 p
   fails_13 p cache here = inr (record { sized = c.walked.sized; fails = from_12 ∙ holds 12 _ _ cache ∙ fails 13 p _ _ here })
+
+pub fails_14 : (image : List ℕ) → IsRooted image → (p : ℕ) → entry_flaw (geometry_of image) image ≡ Some p → Flaw image 14 p
+fails_14 image r p here =
+    inr (record { sized = r.chained.walked.sized; fails = from_12 image r.chained ∙ holds 12 _ _ r.cache ∙ holds 13 _ _ r.root ∙ fails 14 p _ _ here })
+
+module _ (image : List ℕ) (e : IsEntered image) where
+  from_15 : flaw_from_4 image ≡ first_failing 15 (drop 5 (flaws_from_10 (geometry_of image) image))
+  from_15 = from_12 image e.rooted.chained ∙ holds 12 _ _ e.rooted.cache ∙ holds 13 _ _ e.rooted.root ∙ holds 14 _ _ e.entry
+
+  pub fails_15 : (p : ℕ) → dots_flaw (geometry_of image) image ≡ Some p → Flaw image 15 p
+  fails_15 p here = inr (record { sized = e.rooted.chained.walked.sized; fails = from_15 ∙ fails 15 p _ _ here })
+
+  module _ (dots : dots_flaw (geometry_of image) image ≡ None) where
+    pub fails_16 : (p : ℕ) → links_flaw (geometry_of image) image ≡ Some p → Flaw image 16 p
+    fails_16 p here = inr (record { sized = e.rooted.chained.walked.sized; fails = from_15 ∙ holds 15 _ _ dots ∙ fails 16 p _ _ here })
+
+    pub fails_nowhere : links_flaw (geometry_of image) image ≡ None → IsSound image
+    fails_nowhere links = record { sized = e.rooted.chained.walked.sized; others = from_15 ∙ holds 15 _ _ dots ∙ holds 16 _ _ links }
 
 module _ (g : Geometry) (image : List ℕ) where
   -- there is no bad number

@@ -1,16 +1,57 @@
 mod AddressSteps
+mod BooleanTests
 mod CacheSteps
 mod ChainMet
 mod ChainStart
 mod ChainWalk
+mod ClimbSteps
+mod DirectorySteps
+mod EntryFlaws
+mod EntryParts
+mod EntryReads
+mod EntryTakes
+pub mod FileBlocks
+pub mod FileTexts
+mod FileWalks
 mod Flaws
+mod FreeBlocks
+mod GoodEntries
+mod InodeReads
 mod InodeSteps
+mod KeptDirectories
 pub mod LineReads
+mod ListReads
+mod LoadSteps
+mod LoadedNodes
+mod LoadedTree
+mod LoadsLeft
 mod MadeImages
 mod MadeRows
 mod NestedImages
 pub mod SizeFlaws
+mod OwnedBlocks
+mod OwnedLines
+mod PageFinds
+mod PageOrder
+mod ReachedBlocks
+mod ReadyDirectories
+mod SeenSteps
 mod SizedImages
 mod SmallImages
+mod SoundParts
+mod StandingSteps
+mod ToldDots
+mod ToldEntries
+mod ToldPlaces
+mod ToldTimes
+mod TreeBytes
+mod TreeCounts
+mod TreeDirectories
+mod TreeNamings
+mod TreeNodes
 mod WalkSteps
+mod WholeBlocks
+mod WholeEntries
+mod WholeNodes
+mod WholeTree
 mod WholeWalk

@@ -3,12 +3,14 @@ use Rattle.std.proofs.Common.{◌≡◌, ◌≢◌, ◌≤◌, ◌<◌, ◌+◌,
 use Rattle.std.specs.List.{range_with_len}
 use Rattle.std.proofs.Math.Path.{fun_ext}
 use Rattle.std.proofs.Math.Nat.{mul-le-mul_right, pow-suc, suc-mul}
-use Rattle.std.proofs.lemmas.List.{map-append}
+use Rattle.std.proofs.lemmas.List.{append-nil, map-append}
 use Rattle.std.proofs.lemmas.Grind.{common_steps}
 use Rattle.sv_form.specs.declared.geometry.Geometry.{Geometry}
 use Rattle.sv_form.specs.Image.{block_of}
 use Rattle.sv_form.specs.PagePath.{block_numbers}
 use Rattle.sv_check.specs.declared.met.Met.{Met}
+use Rattle.sv_check.specs.declared.pages.PageBlock.{PageBlock}
+use Rattle.sv_check.specs.Pages.{page_at}
 use Rattle.sv_check.specs.PastSize.{is_past, has_tail}
 use Rattle.sv_check.specs.declared.walk.Walk.{Walk}
 use Rattle.sv_check.specs.Progress.{Progress, progress_of, met_by, with_owner, step, after, met_at, GoesOn, StopsAt, Walks}
@@ -182,11 +184,12 @@ pub owner_set : (owner : List ℕ) (b n : ℕ) → b < length owner → slice_in
 owner_set owner b n inside = fun_ext (λ x. set_at owner b n x inside (x == b) refl)
 
 -- the progress after a block was taken and noted
-pub progress_new : (old new : Walk) (b n : ℕ) (past tail : Bool) → b < length old.owner.items → new.owner.items ≡ slice_set old.owner.items b n → new.past ≡ (old.past || past)
-    → new.tail ≡ (old.tail || tail) → progress_of new ≡ record { owner = with_owner (slice_index old.owner.items) b n; past = old.past || past; tail = old.tail || tail }
-progress_new old new b n past tail inside owner is_past is_tail =
+pub progress_new : (old new : Walk) (b n : ℕ) (past tail : Bool) (pages : List PageBlock) → b < length old.owner.items → new.owner.items ≡ slice_set old.owner.items b n → new.past ≡ (old.past || past)
+    → new.tail ≡ (old.tail || tail) → new.pages.items ≡ old.pages.items ++ pages
+    → progress_of new ≡ record { owner = with_owner (slice_index old.owner.items) b n; past = old.past || past; tail = old.tail || tail; pages = old.pages.items ++ pages }
+progress_new old new b n past tail pages inside owner is_past is_tail are =
     let items : slice_index new.owner.items ≡ with_owner (slice_index old.owner.items) b n = ap slice_index owner ∙ owner_set old.owner.items b n inside in
-    λ i. record { owner = items i; past = is_past i; tail = is_tail i }
+    λ i. record { owner = items i; past = is_past i; tail = is_tail i; pages = are i }
 
 -- place k of an indirect block has a number
 abbrev pub holds_number : List ℕ → ℕ → Bool
@@ -220,6 +223,12 @@ module _ (g : Geometry) (image : List ℕ) (size height page b : ℕ) (above : h
 
   pub tail-indirect : false ≡ has_tail g image size (record { height = height; page = page; block = b })
   tail-indirect = grind (arith, above_zero height above)
+
+  -- and is not kept as one
+  pub pages-indirect : (old new : List PageBlock) → new ≡ old → new ≡ old ++ page_at (record { height = height; page = page; block = b })
+  pages-indirect old new same =
+      let none : page_at (record { height = height; page = page; block = b }) ≡ [] = ap (λ (t : Bool). if t then record { page = page; block = b } ∷ [] else []) (above_zero height above) in
+      same ∙ sym (append-nil old) ∙ ap (λ (l : List PageBlock). old ++ l) (sym none)
 
 module _ (g : Geometry) (image img : List ℕ) (n size : ℕ) (q r : Progress) (page b h k first number span : ℕ) (ok : Bool) (bad : ℕ) where
   pub walks_at : img ≡ image → number ≡ number_in (block_of g image b) k → first ≡ page + k * span → span ≡ block_numbers g ^ h

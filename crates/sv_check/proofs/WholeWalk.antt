@@ -18,7 +18,7 @@ use Rattle.sv_check.specs.Walk.{is_among, Reached, reached, met_of, walk, first_
 use Rattle.sv_check.specs.Chain.{walked}
 use Rattle.sv_check.proofs.WalkSteps.{owner_met, from_on, from_on-skip, from_on-take, from_on-end}
 
-zeros-index : (n x : ℕ) → slice_index (replicate n 0) x ≡ 0
+pub zeros-index : (n x : ℕ) → slice_index (replicate n 0) x ≡ 0
 zeros-index zero x = refl
 zeros-index (suc n) zero = refl
 zeros-index (suc n) (suc x) = zeros-index n x

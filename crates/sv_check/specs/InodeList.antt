@@ -46,6 +46,10 @@ used_inodes g image = filter (λ n. not (is_free (inode_of g image n))) (inode_n
 unfoldable pub used_flags : Geometry → List ℕ → List Bool
 used_flags g image = map (λ n. not (is_free (inode_of g image n))) (inode_numbers g)
 
+-- the links of each inode, in the order of their numbers
+unfoldable pub link_counts : Geometry → List ℕ → List ℕ
+link_counts g image = map (λ n. links_of (inode_of g image n)) (inode_numbers g)
+
 -- inode n does not read, or is inode 1 and not free
 abbrev pub is_misread : ℕ → List ℕ → Bool
 is_misread n inode = not (reads_inode inode) || ((n == 1) && not (is_free inode))

@@ -2,20 +2,23 @@
 use Rattle.std.specs.Prelude.{◌≡◌, ◌==◌, ◌||◌, ◌++◌, ℕ, Bool, true, false, not, List, [], ◌∷◌, map, Some, slice_index, if◌then◌else◌}
 use Rattle.sv_form.specs.declared.geometry.Geometry.{Geometry}
 use Rattle.sv_check.specs.declared.met.Met.{Met}
+use Rattle.sv_check.specs.declared.pages.PageBlock.{PageBlock}
 use Rattle.sv_check.specs.declared.walk.Walk.{Walk}
+use Rattle.sv_check.specs.Pages.{page_at}
 use Rattle.sv_check.specs.PastSize.{is_past, has_tail}
 use Rattle.sv_check.specs.Walk.{Reached, first_bad}
 
 -- the inode whose each block is, 0 for none; and whether the present inode has a block that lies past the size or is an
--- empty indirect block, and a last page with a tail
+-- empty indirect block, and a last page with a tail; and its pages
 pub record Progress : Type 0 where
   pub owner : ℕ → ℕ
   pub past : Bool
   pub tail : Bool
+  pub pages : List PageBlock
 
 -- what the walk keeps, as its progress
 abbrev pub progress_of : Walk → Progress
-progress_of w = record { owner = slice_index w.owner.items; past = w.past; tail = w.tail }
+progress_of w = record { owner = slice_index w.owner.items; past = w.past; tail = w.tail; pages = w.pages.items }
 
 -- the blocks that were met are those with an owner
 abbrev pub met_by : (ℕ → ℕ) → ℕ → Bool
@@ -31,6 +34,7 @@ step g image n size p r = record {
   owner = with_owner p.owner r.block n;
   past = p.past || is_past g image size r;
   tail = p.tail || has_tail g image size r;
+  pages = p.pages ++ page_at r;
 }
 
 -- after these blocks

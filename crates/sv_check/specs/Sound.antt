@@ -77,6 +77,11 @@ pub record IsRooted (image : List ℕ) : Type 0 where
   pub cache : cache_flaw (geometry_of image) image ≡ None
   pub root : root_flaw (geometry_of image) image ≡ None
 
+-- the first fourteen conditions hold: those thirteen, and that the entries of each directory are in order
+pub record IsEntered (image : List ℕ) : Type 0 where
+  pub rooted : IsRooted image
+  pub entry : entry_flaw (geometry_of image) image ≡ None
+
 -- ---- the tree of a sound image
 
 abbrev pub is_page : Reached → Bool

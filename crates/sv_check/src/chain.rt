@@ -1,82 +1,49 @@
 // The chain of free blocks (Bach, chapter 4.7): conditions 10 and 11 of a sound image.
 ghost use Rattle.std.specs.Prelude.{◌≡◌, ◌≤◌, ◌<◌, ◌*◌, ⊤, ℕ, List, None, not, map, drop, find, length, true, false, slice_set, slice_index, ◌-◌, ◌≢◌, IfOk, IfErr};
-ghost use Rattle.std.specs.List.{list_all, range_with_len};
+ghost use Rattle.std.specs.List.{range_with_len};
 ghost use Rattle.std.specs.Bool.{OnTrue, OnFalse};
 ghost use Rattle.sv_dev.specs.Causes.{Rose};
 ghost use Rattle.sv_form.specs.Geometry.{IsGeometry};
-ghost use Rattle.sv_form.specs.Number.{number16};
-ghost use Rattle.sv_check.specs.Chain.{number, chain_from, first_broken, is_filled, list_in, reads_list};
+ghost use Rattle.sv_check.specs.Blocks.{IsListRead};
+ghost use Rattle.sv_check.specs.Chain.{number, chain_from, first_broken};
 ghost use Rattle.sv_check.specs.ChainSteps.{Follows, met_in, met_of_list, numbers_of, with_each};
 ghost use Rattle.sv_check.specs.Fault.{Says};
 ghost use Rattle.sv_check.specs.Progress.{met_by};
 ghost use Rattle.sv_check.specs.Walk.{is_new, with_met};
 
-use crate::{CheckFault, block_in_memory};
+use crate::CheckFault;
+use crate::walk::block_in_memory;
 use std::alloc::Global;
 use sv_dev::Disk;
-use sv_form::{Geometry, NoMemory, number16, number32};
+use sv_form::{Geometry, LINK_BLOCK_SIZE, LinkBlock, NoMemory};
 
-// The most numbers that a list of free blocks has.
-const LIST_MAX: u16 = 50;
-
-/// Whether the block has a list of free blocks: 1 to 50 numbers, and zero bytes where it has none.
-pub fn reads_list(block: &[u8]) -> bool
+// The list of free blocks that stands in a block.
+fn read_list(block: &[u8]) -> Option<LinkBlock>
     requires { 204 ≤ length block.now }
-    ensures result { result ≡ reads_list block.now }
-    ensures count { OnTrue result (number16 block.now 0 ≤ 50) }
+    ensures { IsListRead block.now result }
 {
-    let count = number16(block, 0);
-    1 <= count && count <= LIST_MAX && block[2] == 0 && block[3] == 0 && are_filled(block)
+    LinkBlock::read(&block[..LINK_BLOCK_SIZE])
 }
 
-// Whether each place after the first has a number exactly if the list reaches it.
-fn are_filled(block: &[u8]) -> bool
-    requires { 204 ≤ length block.now }
-    ensures { result ≡ list_all (is_filled block.now) (range_with_len 1 49) }
+// The numbers of the list, in memory of their own.
+fn copy_numbers(alloc: Global, list: &LinkBlock) -> Result<Vec<u32>, NoMemory>
+    ensures { IfOk result (λ copy. copy.items ≡ list.now.numbers.items) }
 {
-    for k in 1..50 {
-        if !is_filled(block, k) {
-            return false;
-        }
-    }
-    true
-}
-
-fn is_filled(block: &[u8], k: u16) -> bool
-    requires block { 204 ≤ length block.now }
-    requires place { k < 50 }
-    ensures { result ≡ is_filled block.now k }
-{
-    let number = number32(block, 4 + 4 * usize::from(k));
-    if number16(block, 0) <= k {
-        return number == 0;
-    }
-    number != 0
-}
-
-/// The numbers of the list in a block that reads as one.
-pub fn list_in(alloc: Global, block: &[u8]) -> Result<Vec<u32>, NoMemory>
-    requires block { 204 ≤ length block.now }
-    requires list { number16 block.now 0 ≤ 50 }
-    ensures list { IfOk result (λ l. l.items ≡ list_in block.now) }
-{
-    let mut list = Vec::new(alloc);
-    for k in 0..number16(block, 0) {
-        list.push(number32(block, 4 + 4 * usize::from(k)))?;
-    }
-    Ok(list)
+    let mut copy = Vec::new(alloc);
+    copy.extend_from_slice(list.numbers.as_slice())?;
+    Ok(copy)
 }
 
 /// Whether each block was met, in the walk or in the chain; and the number at which the chain stopped.
 #[derive(Debug, Drop)]
-pub struct MetBlocks {
-    pub met: Vec<bool>,
-    pub bad: u32,
+pub(crate) struct MetBlocks {
+    pub(crate) met: Vec<bool>,
+    pub(crate) bad: u32,
 }
 
 impl MetBlocks {
     /// The blocks that have an owner, which are those that the walk met.
-    pub fn from_owners(alloc: Global, owners: &[u16]) -> Result<MetBlocks, NoMemory>
+    pub(crate) fn from_owners(alloc: Global, owners: &[u16]) -> Result<MetBlocks, NoMemory>
         ensures met { IfOk result (λ m. met_in m.met.items ≡ met_by (slice_index owners.now)) }
         ensures blocks { IfOk result (λ m. length m.met.items ≡ length owners.now) }
     {
@@ -137,7 +104,7 @@ impl MetBlocks {
     }
 
     /// The first data block that was not met.
-    pub fn first_lost(&self, sizes: &Geometry) -> Option<u32>
+    pub(crate) fn first_lost(&self, sizes: &Geometry) -> Option<u32>
         requires blocks { length self.now.met.items ≡ sizes.now.blocks }
         ensures lost { result ≡ find (λ b. not (met_in self.now.met.items b)) (range_with_len sizes.now.first_data (sizes.now.blocks - sizes.now.first_data)) }
     {
@@ -172,7 +139,7 @@ fn link_of(numbers: &[u32]) -> u32
 
 /// Follows the chain that begins with these numbers, and meets each. It gives the first bad number, at which it stopped;
 /// where there is none, the blocks that are met are those from before and all of the chain.
-pub fn follow_chain<D: Disk>(
+pub(crate) fn follow_chain<D: Disk>(
     alloc: Global,
     disk: &mut D,
     sizes: &Geometry,
@@ -201,10 +168,10 @@ pub fn follow_chain<D: Disk>(
             return Ok(None);
         }
         let block = block_in_memory(alloc, disk, sizes, link)?;
-        if !reads_list(&block) {
+        let Some(next) = read_list(&block) else {
             return Ok(Some(link));
-        }
-        list = list_in(alloc, &block)?;
+        };
+        list = copy_numbers(alloc, &next)?;
     }
     Ok(None)
 }

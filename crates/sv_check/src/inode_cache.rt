@@ -12,7 +12,7 @@ use sv_form::{Geometry, NoMemory};
 
 /// The first number of a cache of free inodes that may not stand there: it is under 2 or over the count, that of a used
 /// inode, or there before. The flags say of each inode, from 1 on, whether it is used.
-pub fn first_uncacheable(
+pub(crate) fn first_uncacheable(
     alloc: Global,
     sizes: &Geometry,
     used: &[bool],

@@ -1,35 +1,46 @@
-//! Whether an image is sound. A checker answers Ok exactly where every condition holds, and else the first that fails.
-//! What the sixteen conditions are stands in specs/Sound.antt and the files that it names.
+//! Whether an image is sound. What the sixteen conditions are stands in specs/Sound.antt and the files that it names.
 //!
-//! - `check_all_but_names` decides the first thirteen conditions: all but those on the entries of directories and the links.
-//! - `read_sizes` decides the first three: it reads the superblock, or says which fails first, and where.
-//! - `read_inode_list` and `walk_blocks` are its two passes; `Walk` is the walk over the blocks of one inode.
-//! - `follow_chain` follows a chain of free blocks to its first bad number, from the blocks that were met before;
-//!   `first_uncacheable` is the first number of a cache of free inodes that may not stand there.
-//! - `read_block` and `read_inode` read one block, and one inode, of an image of known sizes.
+//! - `check` answers what the image mounts as exactly where all of them hold, and else the first that fails.
+//! - `read_sizes` answers the same of the first three, from the superblock alone.
+//! - `read_block` and `read_inode` read one block, and one inode, of an image whose sizes are known.
+//! - `file_size` and `read_pages` find one file of a sound image, and `free_count` and `used_count` count.
+//! - `load` reads the tree of a sound image into a file system of `sv_plain`.
+//! - `CheckFault` is a refusal with its number and place, a failure of the disk, or want of memory.
+//! - All passes of the check stand inside the crate.
 #![tactic(auto)]
 
 mod blocks;
 mod chain;
-mod check;
+mod conditions;
+mod counts;
+mod directories;
+mod dots;
+mod entries;
 mod fault;
+mod file;
 mod inode_cache;
 mod inodes;
+mod line_owners;
+mod links;
+mod loading;
 mod met;
+mod pages;
 mod sizes;
+mod standings;
 mod walk;
 mod whole_walk;
 
 pub use blocks::{read_block, read_inode};
-pub use chain::{MetBlocks, follow_chain, list_in, reads_list};
-pub use check::check_all_but_names;
+pub use conditions::check;
+pub use counts::{free_count, used_count};
 pub use fault::CheckFault;
-pub use inode_cache::first_uncacheable;
-pub use inodes::{InodeList, is_free, read_inode_list};
-pub use met::Met;
+pub use file::{file_size, read_pages};
+pub use loading::{LoadFault, load};
+pub use pages::{PageBlock, next_block};
 pub use sizes::read_sizes;
-pub use walk::{Walk, block_in_memory};
-pub use whole_walk::{BlockWalk, walk_blocks};
+pub use sv_form::{LineRange, Mounted, Owners};
 
+#[cfg(test)]
+mod load_tests;
 #[cfg(test)]
 mod tests;

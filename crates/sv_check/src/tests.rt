@@ -1,12 +1,13 @@
-// Worked rows: small sound images, and one change of them for each of the first thirteen conditions.
+// Worked rows: small sound images, and one change of them for each of the sixteen conditions.
 ghost use Rattle.std.specs.Prelude.{◌+◌, ◌<◌, ◌^◌, length};
 
-use crate::{CheckFault, MetBlocks, check_all_but_names, follow_chain};
+use crate::chain::{MetBlocks, follow_chain};
+use crate::{CheckFault, check};
 use std::alloc::{AllocError, Global};
 use std::process::Abort;
 use std::test::Fail as Failure;
 use sv_dev::{Access, Disk, Fail, MemDisk};
-use sv_form::Geometry;
+use sv_form::{Geometry, LineRange, Mounted};
 
 // An image of 5 blocks and 16 inodes. Inode 2 is the root, and inode 3 a file of 6 bytes in block 4.
 fn small_image(alloc: Global) -> Result<Vec<u8>, AllocError> {
@@ -35,6 +36,8 @@ const INODE_1: usize = 2_048;
 
 const INODE_3: usize = 2_176;
 
+const NAME_A: usize = 3_106;
+
 // The number and the place of the first condition that fails on the small image with these bytes changed, and no number
 // where none does.
 fn first_failing(alloc: Global, at: usize, bytes: &[u8]) -> Result<(u8, u32), Failure>
@@ -46,7 +49,7 @@ fn first_failing(alloc: Global, at: usize, bytes: &[u8]) -> Result<(u8, u32), Fa
 }
 
 #[test]
-fn thirteen_conditions(rt: HostRuntime) -> Result<(), Failure> {
+fn sixteen_conditions(rt: HostRuntime) -> Result<(), Failure> {
     let alloc = rt.alloc();
     let file = b"\xa4\x81\x01\0\0\0\0\0\x06\0\0\0\x04";
     assert_eq!(rt; first_failing(alloc, 0, b"")?, (0, 0));
@@ -64,7 +67,40 @@ fn thirteen_conditions(rt: HostRuntime) -> Result<(), Failure> {
         first_failing(alloc, 524, b"\x02\0\0\0\0\0\0\0\x03")?,
         (10, 3)
     );
+    assert_eq!(rt; first_failing(alloc, INODE_3 + 12, b"\0")?, (11, 4));
+    assert_eq!(rt; first_with_cache(alloc, b"\x01", b"\x03")?, (12, 3));
+    assert_eq!(rt; first_failing(alloc, 2_113, b"\x81")?, (13, 2));
+    assert_eq!(rt; first_failing(alloc, NAME_A, b"/")?, (14, 2));
+    assert_eq!(rt; first_failing(alloc, 3_088, b"\x03")?, (15, 2));
+    assert_eq!(rt; first_failing(alloc, 2_114, b"\x03")?, (16, 2));
     Ok(())
+}
+
+// The root with a fourth entry: another name of inode 3, the name that is there already, names of a free inode, of none in
+// the list and of inode 1, bytes after a name, and a name without an inode. Then a root that is a page too long.
+#[test]
+fn entries(rt: HostRuntime) -> Result<(), Failure> {
+    let alloc = rt.alloc();
+    assert_eq!(rt; with_fourth_entry(alloc, b"\x03\0b")?, (16, 3));
+    assert_eq!(rt; with_fourth_entry(alloc, b"\0\0")?, (0, 0));
+    assert_eq!(rt; with_fourth_entry(alloc, b"\x03\0a")?, (14, 2));
+    assert_eq!(rt; with_fourth_entry(alloc, b"\x04\0b")?, (14, 2));
+    assert_eq!(rt; with_fourth_entry(alloc, b"\x11\0b")?, (14, 2));
+    assert_eq!(rt; with_fourth_entry(alloc, b"\x01\0b")?, (14, 2));
+    assert_eq!(rt; with_fourth_entry(alloc, b"\x03\0b\0c")?, (14, 2));
+    assert_eq!(rt; with_fourth_entry(alloc, b"\x03\0\0")?, (14, 2));
+    assert_eq!(rt; with_fourth_entry(alloc, b"\0\0b")?, (14, 2));
+    assert_eq!(rt; first_failing(alloc, 2_120, b"\x10\x04")?, (14, 2));
+    Ok(())
+}
+
+fn with_fourth_entry(alloc: Global, entry: &[u8]) -> Result<(u8, u32), Failure>
+    requires { length entry.now < 2 ^ 16 }
+{
+    let mut image = small_image(alloc)?;
+    put(&mut image, 2_120, b"@");
+    put(&mut image, 3_120, entry);
+    answer(alloc, &image)
 }
 
 // The same with this count of the inode cache and these numbers in it.
@@ -76,6 +112,109 @@ fn first_with_cache(alloc: Global, count: &[u8], numbers: &[u8]) -> Result<(u8, 
     put(&mut image, 526, count);
     put(&mut image, 728, numbers);
     answer(alloc, &image)
+}
+
+// The lines of an inode of the small image; of inode 0 those without an owner.
+fn lines_of(alloc: Global, n: u16) -> Result<Vec<LineRange>, Failure> {
+    let mut disk = MemDisk::new(small_image(alloc)?, Vec::new(alloc));
+    match check(alloc, &mut disk) {
+        Ok(mounted) => Ok(owned_lines(alloc, &mounted, n)?),
+        Err(_) => Err("no answer")?,
+    }
+}
+
+fn owned_lines(alloc: Global, mounted: &Mounted, n: u16) -> Result<Vec<LineRange>, AllocError> {
+    if n == 0 {
+        return mounted.owners.rest(alloc);
+    }
+    mounted.owners.lines(alloc, n)
+}
+
+const fn lines(block: u32, first: u8, count: u8) -> LineRange {
+    LineRange {
+        block,
+        first,
+        count,
+    }
+}
+
+// Each of the two inodes has its own line and its page; the first two blocks and the lines of free inodes are nobody's.
+#[test]
+fn owners(rt: HostRuntime) -> Result<(), Failure> {
+    let alloc = rt.alloc();
+    let root = [lines(2, 1, 1), lines(3, 0, 16)];
+    let file = [lines(2, 2, 1), lines(4, 0, 16)];
+    let rest = [
+        lines(0, 0, 16),
+        lines(1, 0, 16),
+        lines(2, 0, 1),
+        lines(2, 3, 13),
+    ];
+    assert!(rt; lines_of(alloc, 2)?.as_slice() == root.as_slice());
+    assert!(rt; lines_of(alloc, 3)?.as_slice() == file.as_slice());
+    assert!(rt; lines_of(alloc, 4)?.is_empty());
+    assert!(rt; lines_of(alloc, 0)?.as_slice() == rest.as_slice());
+    Ok(())
+}
+
+// An image of 8 blocks and 16 inodes. Directory 3 stands in the root, and directory 4 in 3.
+fn nested_image(alloc: Global) -> Result<Vec<u8>, AllocError> {
+    let mut image = vec![in alloc; 0; 8_192]?;
+    put(&mut image, 512, b"SV5F\x02\0\x03\0\x08\0\0\0\x03\0\0\0");
+    put(&mut image, 532, b"\x06\0\0\0\x07");
+    put(&mut image, 2_112, b"\xed\x41\x03\0\0\0\0\0\x30\0\0\0\x03");
+    put(&mut image, INODE_3, b"\xed\x41\x03\0\0\0\0\0\x30\0\0\0\x04");
+    put(&mut image, INODE_4, b"\xed\x41\x02\0\0\0\0\0\x30\0\0\0\x05");
+    put(&mut image, 3_072, b"\x02\0.");
+    put(&mut image, 3_088, b"\x02\0..");
+    put(&mut image, 3_104, b"\x03\0d");
+    put(&mut image, 4_096, b"\x03\0.");
+    put(&mut image, 4_112, b"\x02\0..");
+    put(&mut image, 4_128, b"\x04\0e");
+    put(&mut image, 5_120, b"\x04\0.");
+    put(&mut image, 5_136, b"\x03\0..");
+    Ok(image)
+}
+
+const INODE_4: usize = 2_240;
+
+// The number and the place of the first condition that fails on the image of nested directories with these bytes changed.
+fn first_nested(alloc: Global, at: usize, bytes: &[u8]) -> Result<(u8, u32), Failure>
+    requires { at + length bytes.now < 2 ^ 32 }
+{
+    let mut image = nested_image(alloc)?;
+    put(&mut image, at, bytes);
+    answer(alloc, &image)
+}
+
+// The `..` of 4 names the root; the `.` of 4 names 3; entry 1 of 3 has another name; the root names 4 in place of 3; 3 names
+// the root; `..` stands twice; a directory has a link too many, none, and more than there may be.
+#[test]
+fn nested_directories(rt: HostRuntime) -> Result<(), Failure> {
+    let alloc = rt.alloc();
+    assert_eq!(rt; first_nested(alloc, 0, b"")?, (0, 0));
+    assert_eq!(rt; first_nested(alloc, 5_136, b"\x02")?, (15, 4));
+    assert_eq!(rt; first_nested(alloc, 5_120, b"\x03")?, (15, 4));
+    assert_eq!(rt; first_nested(alloc, 4_114, b"x")?, (15, 3));
+    assert_eq!(rt; first_nested(alloc, 3_104, b"\x04")?, (15, 3));
+    assert_eq!(rt; first_nested(alloc, 4_128, b"\x02")?, (15, 2));
+    assert_eq!(rt; first_nested(alloc, 4_130, b"..")?, (14, 3));
+    assert_eq!(rt; first_nested(alloc, INODE_4 + 2, b"\x03")?, (16, 4));
+    assert_eq!(rt; first_nested(alloc, INODE_4 + 2, b"\0")?, (16, 4));
+    assert_eq!(rt; first_nested(alloc, INODE_3 + 2, b"\xe9\x03")?, (16, 3));
+    Ok(())
+}
+
+// Directories 3 and 4 stand in one another, and no way leads from them to the root.
+#[test]
+fn circle(rt: HostRuntime) -> Result<(), Failure> {
+    let alloc = rt.alloc();
+    let mut image = nested_image(alloc)?;
+    put(&mut image, 3_104, b"\0\0\0");
+    put(&mut image, 4_112, b"\x04");
+    put(&mut image, 5_152, b"\x03\0d");
+    assert_eq!(rt; answer(alloc, &image)?, (15, 3));
+    Ok(())
 }
 
 // No number but that of a free inode, once; inode 16 is the last.
@@ -115,14 +254,14 @@ fn answer(alloc: Global, image: &[u8]) -> Result<(u8, u32), Failure> {
     let mut copy = Vec::new(alloc);
     copy.extend_from_slice(image)?;
     let mut disk = MemDisk::new(copy, Vec::new(alloc));
-    match check_all_but_names(alloc, &mut disk) {
+    match check(alloc, &mut disk) {
         Ok(_) => Ok((0, 0)),
         Err(CheckFault::Refused { number, place }) => Ok((number, place)),
         Err(_) => Err("no answer")?,
     }
 }
 
-// The superblock, the inode list twice, and the last page of each file.
+// The superblock, the inode list twice, the last page of each file, and the root's page once more.
 #[test]
 fn reads_and_faults(rt: HostRuntime) -> Result<(), Failure> {
     let alloc = rt.alloc();
@@ -132,19 +271,15 @@ fn reads_and_faults(rt: HostRuntime) -> Result<(), Failure> {
         Access::Read(2_048),
         Access::Read(3_072),
         Access::Read(4_096),
+        Access::Read(3_072),
     ];
     let mut disk = MemDisk::new(small_image(alloc)?, Vec::new(alloc));
-    assert!(rt; check_all_but_names(alloc, &mut disk).is_ok());
+    assert!(rt; check(alloc, &mut disk).is_ok());
     assert!(rt; disk.log() == log.as_slice());
-    for k in 1..=5 {
+    for k in 1..=6 {
         let fails = vec![in alloc; Fail::Read(k)]?;
         let mut disk = MemDisk::new(small_image(alloc)?, fails);
-        assert!(rt;
-            matches!(
-                check_all_but_names(alloc, &mut disk),
-                Err(CheckFault::Fault)
-            )
-        );
+        assert!(rt; matches!(check(alloc, &mut disk), Err(CheckFault::Fault)));
     }
     Ok(())
 }
@@ -203,7 +338,7 @@ fn lost_block(rt: HostRuntime) -> Result<(), Failure> {
     Ok(())
 }
 
-// Both blocks of the inode list twice, the root's page, and the link block.
+// Both blocks of the inode list twice, the root's page, the link block, and the root's page once more.
 #[test]
 fn reads_of_the_chain(rt: HostRuntime) -> Result<(), Failure> {
     let alloc = rt.alloc();
@@ -215,19 +350,15 @@ fn reads_of_the_chain(rt: HostRuntime) -> Result<(), Failure> {
         Access::Read(4_096),
         Access::Read(3_072),
         Access::Read(14_336),
+        Access::Read(4_096),
     ];
     let mut disk = MemDisk::new(made_image(alloc)?, Vec::new(alloc));
-    assert!(rt; check_all_but_names(alloc, &mut disk).is_ok());
+    assert!(rt; check(alloc, &mut disk).is_ok());
     assert!(rt; disk.log() == log.as_slice());
-    for k in 1..=7 {
+    for k in 1..=8 {
         let fails = vec![in alloc; Fail::Read(k)]?;
         let mut disk = MemDisk::new(made_image(alloc)?, fails);
-        assert!(rt;
-            matches!(
-                check_all_but_names(alloc, &mut disk),
-                Err(CheckFault::Fault)
-            )
-        );
+        assert!(rt; matches!(check(alloc, &mut disk), Err(CheckFault::Fault)));
     }
     Ok(())
 }

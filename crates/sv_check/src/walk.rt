@@ -1,5 +1,5 @@
 // The walk over the blocks that an inode reaches (Bach, chapter 4.2): conditions 6 to 9 of a sound image.
-ghost use Rattle.std.specs.Prelude.{◌≡◌, ◌≢◌, ◌≤◌, ◌<◌, ◌+◌, ◌*◌, ◌^◌, ◌&&◌, ◌==◌, ◌||◌, ⊤, false, ◌∷◌, [], ℕ, length, slice_set, slice_index, nat_lt, nat_le, drop, IfOk, IfErr};
+ghost use Rattle.std.specs.Prelude.{◌≡◌, ◌≢◌, ◌≤◌, ◌<◌, ◌+◌, ◌*◌, ◌^◌, ◌&&◌, ◌==◌, ◌||◌, ⊤, false, ◌∷◌, ◌++◌, [], ℕ, length, slice_set, slice_index, nat_lt, nat_le, drop, IfOk, IfErr, OnOk};
 ghost use Rattle.std.specs.Bool.{OnTrue, OnFalse};
 ghost use Rattle.sv_dev.specs.Causes.{Rose};
 ghost use Rattle.sv_form.specs.Geometry.{IsGeometry};
@@ -12,27 +12,30 @@ ghost use Rattle.sv_check.specs.Progress.{Walks, met_by, progress_of};
 ghost use Rattle.sv_plain.specs.Front.{size_of};
 ghost use Rattle.sv_check.specs.Walk.{filled, first_page, height_of, is_data_block, is_new, reached, reached_under};
 
-use crate::{CheckFault, is_free, read_block};
+use crate::inodes::is_free;
+use crate::pages::PageBlock;
+use crate::{CheckFault, read_block};
 use std::alloc::Global;
 use sv_dev::Disk;
-use sv_form::{DIRECT, Geometry, number24, number32};
+use sv_form::{DIRECT, Geometry, NoMemory, number24, number32};
 
 // How many addresses an inode has.
 const ADDRESSES: u32 = 13;
 
 /// Whose each block is as far as the walk has come, 0 for none. Then what the walk found of the present inode: whether
-/// a block lies past its size or is an empty indirect block, and whether its last page has a tail; and the number at
-/// which the walk stopped.
+/// a block lies past its size or is an empty indirect block, whether its last page has a tail, and its pages; and the
+/// number at which the walk stopped.
 #[derive(Debug, Drop)]
-pub struct Walk {
-    pub owner: Vec<u16>,
-    pub past: bool,
-    pub tail: bool,
-    pub bad: u32,
+pub(crate) struct Walk {
+    pub(crate) owner: Vec<u16>,
+    pub(crate) past: bool,
+    pub(crate) tail: bool,
+    pub(crate) pages: Vec<PageBlock>,
+    pub(crate) bad: u32,
 }
 
 /// Reads one block into memory of its own.
-pub fn block_in_memory<D: Disk>(
+pub(crate) fn block_in_memory<D: Disk>(
     alloc: Global,
     disk: &mut D,
     sizes: &Geometry,
@@ -63,6 +66,7 @@ impl Walk {
         ensures owners { length self.new.owner.items ≡ sizes.now.blocks }
         ensures past { self.new.past ≡ self.old.past }
         ensures tail { self.new.tail ≡ self.old.tail }
+        ensures pages { self.new.pages ≡ self.old.pages }
     {
         let is_data = sizes.first_data <= b && b < sizes.blocks;
         if !is_data {
@@ -105,7 +109,20 @@ impl Walk {
         let tail = has_tail(alloc, disk, sizes, size, page, b)?;
         let start = u64::from(page) * u64::from(sizes.block_size);
         self.note(u64::from(size) <= start, tail);
+        self.add_page(page, b)?;
         Ok(true)
+    }
+
+    // Keeps a page of the present inode.
+    fn add_page(&mut self, page: u32, block: u32) -> Result<(), NoMemory>
+        ensures pages { OnOk result (self.new.pages.items ≡ self.old.pages.items ++ record { page = page; block = block } ∷ []) }
+        ensures owner { self.new.owner ≡ self.old.owner }
+        ensures past { self.new.past ≡ self.old.past }
+        ensures tail { self.new.tail ≡ self.old.tail }
+        ensures bad { self.new.bad ≡ self.old.bad }
+    {
+        self.pages.push(PageBlock { page, block })?;
+        Ok(())
     }
 
     // Keeps what a block of the present inode shows.
@@ -114,6 +131,7 @@ impl Walk {
         ensures tail { self.new.tail ≡ (self.old.tail || tail) }
         ensures owner { self.new.owner ≡ self.old.owner }
         ensures bad { self.new.bad ≡ self.old.bad }
+        ensures pages { self.new.pages ≡ self.old.pages }
     {
         self.past = self.past || past;
         self.tail = self.tail || tail;
@@ -168,7 +186,7 @@ impl Walk {
     }
 
     /// Walks over all blocks that inode n reaches, from the 64 bytes of the inode; false where it stops at a bad number.
-    pub fn walk_inode<D: Disk>(
+    pub(crate) fn walk_inode<D: Disk>(
         &mut self,
         alloc: Global,
         disk: &mut D,
@@ -203,19 +221,21 @@ impl Walk {
     }
 
     /// Forgets what the present inode showed.
-    pub fn clear(&mut self)
+    pub(crate) fn clear(&mut self)
         ensures past { self.new.past ≡ false }
         ensures tail { self.new.tail ≡ false }
+        ensures pages { self.new.pages.items ≡ [] }
         ensures owner { self.new.owner ≡ self.old.owner }
         ensures bad { self.new.bad ≡ self.old.bad }
     {
         self.past = false;
         self.tail = false;
+        self.pages.clear();
     }
 }
 
-// The height of the block at address k.
-fn height_of(k: u32) -> u32
+/// The height of the block at address k.
+pub(crate) fn height_of(k: u32) -> u32
     requires { k < 13 }
     ensures height { result ≡ height_of k }
     ensures most { result ≤ 3 }
@@ -223,8 +243,8 @@ fn height_of(k: u32) -> u32
     (k + 1).saturating_sub(DIRECT)
 }
 
-// The first page that address k leads to.
-fn first_page(sizes: &Geometry, k: u32) -> u32
+/// The first page that address k leads to.
+pub(crate) fn first_page(sizes: &Geometry, k: u32) -> u32
     requires sizes { IsGeometry sizes.now }
     requires address { k < 13 }
     ensures page { result ≡ first_page sizes.now k }
@@ -257,8 +277,8 @@ fn is_empty_indirect(sizes: &Geometry, block: &[u8]) -> bool
     true
 }
 
-// How many pages lie below a block at a height.
-fn span(sizes: &Geometry, height: u32) -> u32
+/// How many pages lie below a block at a height.
+pub(crate) fn span(sizes: &Geometry, height: u32) -> u32
     requires sizes { IsGeometry sizes.now }
     requires height { height ≤ 3 }
     ensures span { result ≡ block_numbers sizes.now ^ height }

@@ -1,10 +1,16 @@
-use Rattle.std.proofs.Common.{◌≡◌, ◌<◌, ◌+◌, ◌∙◌, sym, ap, arith, refl, not, true, false, ℕ, List, length, slice_index}
+use Rattle.std.proofs.Common.{◌≡◌, ◌<◌, ◌+◌, ◌∙◌, sym, ap, arith, refl, not, map, true, false, ℕ, List, length, slice_index}
+use Rattle.std.proofs.lemmas.List.{append-nil}
 use Rattle.sv_form.specs.declared.place.Place.{Place}
 use Rattle.sv_form.specs.Geometry.{inode_place, inode_count}
-use Rattle.sv_form.specs.Image.{block_of}
-use Rattle.sv_check.specs.InodeList.{is_free}
+use Rattle.sv_form.specs.Image.{block_of, inode_of}
 use Rattle.sv_check.specs.Progress.{progress_of}
+use Rattle.sv_check.specs.InodeList.{is_free, reads_inode}
+use Rattle.sv_check.specs.Pages.{kept_of}
+use Rattle.sv_check.proofs.InodeReads.{no_directory}
+use Rattle.sv_check.proofs.InodeSteps.{all_read}
+use Rattle.sv_check.proofs.KeptDirectories.{is_dir_at, kept_end, kept_first, kept_inode, kept_on, pages_met}
 use Rattle.sv_check.proofs.LineReads.{line_of-is}
+use Rattle.sv_check.proofs.OwnedBlocks.{owned_end, owned_first, owned_free, owned_used}
 use Rattle.sv_check.proofs.WalkSteps.{went, stopped}
 use Rattle.sv_check.proofs.WholeWalk.{nothing-owned, some_if, walks_inode, is_used, at_start, at_free, at_bad, at_used, end-bad, end-past, end-tail, end-met}
 use Rattle.sv_check.proofs.whole_walk.walk_blocks.Goals as goal
@@ -18,6 +24,9 @@ loop-before-init g c = record {
   owners = c.in_ok-no_owners.ensures.len;
   no_past = refl;
   no_tail = refl;
+  no_pages = c.new.ensures.items;
+  kept = kept_first _ _ _ (ap (map kept_of) c.new-directories.ensures.items);
+  owned = owned_first _ _ _ _ c.in_ok-no_owners.ensures.owners;
   reached = at_start _ _ _ (nothing-owned _ _ c.in_ok-no_owners.ensures.owners);
 }
 
@@ -38,6 +47,9 @@ loop-before-preserved-then-is_free g c =
       owners = c.loop-before.invariant.owners;
       no_past = c.loop-before.invariant.no_past;
       no_tail = c.loop-before.invariant.no_tail;
+      no_pages = c.loop-before.invariant.no_pages;
+      kept = kept_on _ _ _ _ _ below c.loop-before.invariant.kept false (no_directory (inode_of c.args.sizes.now (g.D.Disk.content c.args.disk.now) (c.loop-before.before + 1)) (ap (λ (b : List ℕ). is_free b) (sym bytes) ∙ sym c.if-is_free.ensures)) (sym (append-nil _));
+      owned = owned_free _ _ _ _ below free c.loop-before.invariant.owned;
       reached = at_free _ _ _ _ _ _ below free c.loop-before.invariant.reached;
     }
 
@@ -73,6 +85,14 @@ loop-before-preserved g c =
       owners = ap (λ v. length v.items) c.clear.ensures.owner ∙ c.in_ok-walk_inode.ensures.owners;
       no_past = c.clear.ensures.past;
       no_tail = c.clear.ensures.tail;
+      no_pages = c.clear.ensures.pages;
+      kept = kept_on _ _ _ _ _ below c.loop-before.invariant.kept (is_dir_at c.args.sizes.now (g.D.Disk.content c.args.disk.now) (c.loop-before.before + 1)) refl
+          (kept_inode _ _ (c.loop-before.before + 1) _ _ _ _ bytes
+          (pages_met _ _ _ _ _ (progress_of c.walk_inode.new.self) _ (went _ _ _ _ _ _ _ _ _ c.if-not-branch.false walks) c.loop-before.invariant.no_pages)
+          (c.in_ok-keep_directory.ensures (ap (λ (b : List ℕ). reads_inode b) bytes
+          ∙ all_read c.args.sizes.now (g.D.Disk.content c.args.disk.now) c.requires.kind (c.loop-before.before + 1) (omega arith) below)));
+      owned = owned_used _ _ _ _ below used c.loop-before.invariant.owned (progress_of c.walk_inode.new.self) _ (λ e. omega (arith, e))
+          (went _ _ _ _ _ _ _ _ _ c.if-not-branch.false walks) (ap (λ v. slice_index v.items) c.clear.ensures.owner);
       reached = at_used _ _ _ (progress_of c.loop-before.walk) _ _ below used c.loop-before.invariant.reached (progress_of c.walk_inode.new.self) _ _ _ (λ e. omega (arith, e)) c.loop-before.invariant.no_past
           c.loop-before.invariant.no_tail (went _ _ _ _ _ _ _ _ _ c.if-not-branch.false walks) (ap (λ v. slice_index v.items) c.clear.ensures.owner)
           (some_if _ _ _ _ _ c.or-past.ensures c.then_some.ensures) (some_if _ _ _ _ _ c.or-tail.ensures c.then_some-in-loop-before.ensures);
@@ -87,5 +107,11 @@ returns-clause-past g c = λ _. end-past _ _ _ _ _ _ (omega (arith, c.loop-befor
 pub returns-clause-tail : goal.returns-clause-tail
 returns-clause-tail g c = λ _. end-tail _ _ _ _ _ _ (omega (arith, c.loop-before-test.false, c.inode_count-before-end.ensures)) c.loop-before.invariant.reached
 
+pub returns-clause-directories : goal.returns-clause-directories
+returns-clause-directories g c = λ _. kept_end _ _ _ _ (omega (arith, c.loop-before-test.false, c.inode_count-before-end.ensures)) c.loop-before.invariant.kept
+
 pub returns-clause-met : goal.returns-clause-met
 returns-clause-met g c = λ _. end-met _ _ _ _ _ _ (omega (arith, c.loop-before-test.false, c.inode_count-before-end.ensures)) c.loop-before.invariant.reached
+
+pub returns-clause-owner : goal.returns-clause-owner
+returns-clause-owner g c = λ _. owned_end _ _ _ _ (omega (arith, c.loop-before-test.false, c.inode_count-before-end.ensures)) c.loop-before.invariant.owned

@@ -1,6 +1,9 @@
-use Rattle.std.proofs.Common.{◌≡◌, ◌≢◌, ◌≤◌, ◌+◌, length, false, slice_index}
+use Rattle.std.proofs.Common.{◌≡◌, ◌≢◌, ◌≤◌, ◌+◌, [], length, false, map, slice_index}
 use Rattle.sv_form.specs.Geometry.{inode_place}
 use Rattle.sv_form.specs.Image.{block_of}
+use Rattle.sv_check.specs.Pages.{kept_of}
+use Rattle.sv_check.proofs.KeptDirectories.{IsKept}
+use Rattle.sv_check.proofs.OwnedBlocks.{IsOwnedFrom}
 use Rattle.sv_check.proofs.WholeWalk.{IsAt}
 use Rattle.sv_check.proofs.whole_walk.walk_blocks.Given as goal
 
@@ -13,5 +16,8 @@ invariant-loop-before g l = record {
   owners : length l.walk.owner.items ≡ l.fn.sizes.blocks;
   no_past : l.walk.past ≡ false;
   no_tail : l.walk.tail ≡ false;
+  no_pages : l.walk.pages.items ≡ [];
+  kept : IsKept l.fn.sizes (g.D.Disk.content l.fn.disk) (l.before + 1) (map kept_of l.directories.items);
+  owned : IsOwnedFrom l.fn.sizes (g.D.Disk.content l.fn.disk) (l.before + 1) (slice_index l.walk.owner.items);
   reached : IsAt l.fn.sizes (g.D.Disk.content l.fn.disk) (l.before + 1) (slice_index l.walk.owner.items) l.past l.tail;
 }

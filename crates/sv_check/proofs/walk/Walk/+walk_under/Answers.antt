@@ -2,7 +2,7 @@ use Rattle.std.proofs.Common.{◌≤◌, ◌<◌, ◌∙◌, ◌+◌, ◌-◌, �
 use Rattle.sv_form.specs.PagePath.{block_numbers}
 use Rattle.sv_check.specs.Progress.{Walks, StopsAt, progress_of}
 use Rattle.sv_check.specs.Walk.{Reached, filled}
-use Rattle.sv_check.proofs.WalkSteps.{walks_new, walks_bad, progress_new, or_same, LeadsTo, leads_first, leads_same, leads_on, leads_stop, leads_end, below_from, below-all, below-page, below-skip, below-take, below-end, child_pages, number_at, past-indirect, tail-indirect, walks_at, went, stopped}
+use Rattle.sv_check.proofs.WalkSteps.{walks_new, walks_bad, progress_new, or_same, LeadsTo, leads_first, leads_same, leads_on, leads_stop, leads_end, below_from, below-all, below-page, below-skip, below-take, below-end, child_pages, number_at, past-indirect, tail-indirect, pages-indirect, walks_at, went, stopped}
 use Rattle.sv_check.proofs.walk.Walk.+walk_under.Goals as goal
 
 pub returns-then-height-eq0-clause-walks : goal.returns-then-height-eq0-clause-walks
@@ -34,10 +34,11 @@ loop-k-init g t c =
           (leads_first _ _ _ _ _ _ _ _
           (walks_new _ (g.D.Disk.content c.args.disk.now) _ c.args.size _ _ (record { height = c.args.height; page = c.args.page; block = c.args.b }) c.requires.number
           (sym c.if-not-take.ensures.result)
-          (progress_new c.args.self.now c.note.new.self _ _ _ _ (omega (arith, c.if-not-take.ensures.in_range, c.requires.owners))
+          (progress_new c.args.self.now c.note.new.self _ _ _ _ _ (omega (arith, c.if-not-take.ensures.in_range, c.requires.owners))
           (ap (λ v. v.items) c.note.ensures.owner ∙ c.if-not-take.ensures.owner) (or_same _ _ _ _ _ c.note.ensures.past c.take.ensures.past empty)
           (or_same _ _ _ _ _ c.note.ensures.tail c.take.ensures.tail
-          (tail-indirect c.args.sizes.now (g.D.Disk.content c.args.disk.now) c.args.size c.args.height c.args.page c.args.b c.if-height-eq0.false)))));
+          (tail-indirect c.args.sizes.now (g.D.Disk.content c.args.disk.now) c.args.size c.args.height c.args.page c.args.b c.if-height-eq0.false))
+          (pages-indirect c.args.sizes.now (g.D.Disk.content c.args.disk.now) c.args.size c.args.height c.args.page c.args.b c.if-height-eq0.false _ _ (ap (λ v. v.items) (c.note.ensures.pages ∙ c.take.ensures.pages))))));
     }
 
 pub loop-k-preserved-then-number-eq0 : goal.loop-k-preserved-then-number-eq0

@@ -1,4 +1,4 @@
-use Rattle.std.proofs.Common.{◌≡◌, ◌∙◌, ◌*◌, sym, ap, arith, nat_le, ℕ}
+use Rattle.std.proofs.Common.{◌≡◌, ◌∙◌, ◌*◌, ◌++◌, ◌∷◌, [], sym, ap, arith, nat_le, ℕ}
 use Rattle.sv_check.proofs.WalkSteps.{walks_new, walks_bad, progress_new, or_same}
 use Rattle.sv_check.proofs.walk.Walk.walk_page.Goals as goal
 
@@ -14,6 +14,8 @@ returns-clause-walks g c =
     let past : nat_le c.from-3.result (c.from.result * c.from-2.result) ≡ nat_le c.args.size (c.args.page * c.args.sizes.now.block_size) =
     ap (λ (x : ℕ). nat_le x (c.from.result * c.from-2.result)) c.from-3.ensures ∙ ap (nat_le c.args.size) start in
     walks_new _ (g.D.Disk.content c.args.disk.now) _ c.args.size _ _ (record { height = 0; page = c.args.page; block = c.args.b }) c.requires.number (sym c.if-not-take.ensures.result)
-    (progress_new c.args.self.now c.note.new.self _ _ (nat_le c.args.size (c.args.page * c.args.sizes.now.block_size)) _
-    (omega (arith, c.if-not-take.ensures.in_range, c.requires.owners)) (ap (λ v. v.items) c.note.ensures.owner ∙ c.if-not-take.ensures.owner)
-    (or_same _ _ _ _ _ c.note.ensures.past c.take.ensures.past past) (or_same _ _ _ _ _ c.note.ensures.tail c.take.ensures.tail c.in_ok-tail.ensures.tail))
+    (progress_new c.args.self.now c.add_page.new.self _ _ (nat_le c.args.size (c.args.page * c.args.sizes.now.block_size)) _
+    _ (omega (arith, c.if-not-take.ensures.in_range, c.requires.owners)) (ap (λ v. v.items) (c.in_ok-add_page.ensures.owner ∙ c.note.ensures.owner) ∙ c.if-not-take.ensures.owner)
+    (or_same _ _ _ _ _ (c.in_ok-add_page.ensures.past ∙ c.note.ensures.past) c.take.ensures.past past)
+    (or_same _ _ _ _ _ (c.in_ok-add_page.ensures.tail ∙ c.note.ensures.tail) c.take.ensures.tail c.in_ok-tail.ensures.tail)
+    (c.in_ok-add_page.ensures.pages ∙ ap (λ v. v.items ++ record { page = c.args.page; block = c.args.b } ∷ []) (c.note.ensures.pages ∙ c.take.ensures.pages)))
