@@ -26,18 +26,18 @@ value_step base word i value ch digit b d lt is at of same_base same =
     ap (λ (x : ℕ). value * x + d) same_base ∙ value_more base word i value d lt is (same ∙ of ∙ ap digit_value at)
 
 -- the front of a word is too large already
-pub too_large : (most : ℕ) (word : List ℕ) (n : ℕ) → most < digits_value 10 (take n word) → value_of most word ≡ None
-too_large most word n large =
-    let above : most < digits_value 10 word = omega (arith, digits_value-take-le 10 word n (omega arith)) in
-    ap (λ (b : Bool). cond b (Some (digits_value 10 word)) (None)) (and_false (are_digits word) (nat_le (digits_value 10 word) most) (lt-leb (digits_value 10 word) most above))
+pub too_large : (base most : ℕ) (word : List ℕ) (n : ℕ) → 1 ≤ base → most < digits_value base (take n word) → value_of base most word ≡ None
+too_large base most word n some large =
+    let above : most < digits_value base word = omega (arith, digits_value-take-le base word n some) in
+    ap (λ (b : Bool). cond b (Some (digits_value base word)) (None)) (and_false (are_digits base word) (nat_le (digits_value base word) most) (lt-leb (digits_value base word) most above))
 
 -- a word of digits whose value is not too large
-pub value_read : (most : ℕ) (word : List ℕ) (n value : ℕ) → 0 < length word → length word ≤ n → ((k : ℕ) → k < n → digit_value (get_or word k 0) < 10) → value ≡ digits_value 10 (take n word) → value ≤ most → Some value ≡ value_of most word
-value_read most word n value some all digits is fits =
-    let whole : digits_value 10 (take n word) ≡ digits_value 10 word = ap (digits_value 10) (take_all n word all) in
-    let each : list_all (λ c. nat_lt (digit_value c) 10) word ≡ true =
-    list_all-from_AllPass (λ c. nat_lt (digit_value c) 10) word (λ k d lt. ap (λ (c : ℕ). nat_lt (digit_value c) 10) (get_or_default word k d 0 lt) ∙ lt-ltb (digit_value (get_or word k 0)) 10 (digits k (omega arith))) in
-    let tested : are_digits word ≡ true = and_true (nat_lt 0 (length word)) (list_all (λ c. nat_lt (digit_value c) 10) word) (lt-ltb 0 (length word) some) each in
-    let small : nat_le (digits_value 10 word) most ≡ true = le-leb (digits_value 10 word) most (omega arith) in
-    let chosen : Bool → Option ℕ = λ b. cond b (Some (digits_value 10 word)) (None) in
-    ap (λ (v : ℕ). Some v) (is ∙ whole) ∙ sym (ap chosen (and_true (are_digits word) (nat_le (digits_value 10 word) most) tested small))
+pub value_read : (base most : ℕ) (word : List ℕ) (n value : ℕ) → 0 < length word → length word ≤ n → ((k : ℕ) → k < n → digit_value (get_or word k 0) < base) → value ≡ digits_value base (take n word) → value ≤ most → Some value ≡ value_of base most word
+value_read base most word n value some all digits is fits =
+    let whole : digits_value base (take n word) ≡ digits_value base word = ap (digits_value base) (take_all n word all) in
+    let each : list_all (λ c. nat_lt (digit_value c) base) word ≡ true =
+    list_all-from_AllPass (λ c. nat_lt (digit_value c) base) word (λ k d lt. ap (λ (c : ℕ). nat_lt (digit_value c) base) (get_or_default word k d 0 lt) ∙ lt-ltb (digit_value (get_or word k 0)) base (digits k (omega arith))) in
+    let tested : are_digits base word ≡ true = and_true (nat_lt 0 (length word)) (list_all (λ c. nat_lt (digit_value c) base) word) (lt-ltb 0 (length word) some) each in
+    let small : nat_le (digits_value base word) most ≡ true = le-leb (digits_value base word) most (omega arith) in
+    let chosen : Bool → Option ℕ = λ b. cond b (Some (digits_value base word)) None in
+    ap (λ (v : ℕ). Some v) (is ∙ whole) ∙ sym (ap chosen (and_true (are_digits base word) (nat_le (digits_value base word) most) tested small))

@@ -23,9 +23,13 @@ IsShort n = n < 2 ^ 16
 abbrev pub IsLong : ℕ → Type 0
 IsLong n = n < 2 ^ 32
 
+-- a name, whose bytes are bytes
+abbrev pub IsCalled : List ℕ → Type 0
+IsCalled name = IsName name × AreBytes name
+
 -- a name in a directory
 abbrev pub IsPlace : ℕ → List ℕ → Type 0
-IsPlace dir name = IsShort dir × IsName name
+IsPlace dir name = IsShort dir × IsCalled name
 
 abbrev pub NeedFits : Need → Type 0
 NeedFits (need.Write file count) = IsShort file × IsLong count

@@ -1,5 +1,16 @@
 pub mod Allowed
 pub mod Cause
+pub mod Cut
+pub mod Fields
 pub mod Fits
+pub mod Gather
+pub mod Grammar
+pub mod NeedName
+pub mod OneReading
+pub mod OpName
+pub mod Outcome
+pub mod Reading
+pub mod Replay
+pub mod ReplyName
 pub mod Spelling
 pub mod Word

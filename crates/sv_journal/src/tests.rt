@@ -10,7 +10,7 @@ use sv_form::{Bytes, Kind, Name};
 use sv_plain::{Entry, Mode, Need, Op, Reply};
 
 // What a run wrote that makes a directory and a file, writes, reads and looks at it.
-const WORKED: &[u8] = b"svj 1 1 100
+pub(crate) const WORKED: &[u8] = b"svj 1 1 100
 1 promise make 2 686f6d65 = granted 1
 1 create 2 686f6d65 d 755 = made 3
 1 forgo = done
@@ -168,7 +168,7 @@ fn end(entries: &mut Vec<Entry>, home: Name) -> Result<(), AllocError>
     put(entries, purge)
 }
 
-fn worked(alloc: Global, home: Name, a: Name) -> Result<Vec<Entry>, AllocError>
+pub(crate) fn worked(alloc: Global, home: Name, a: Name) -> Result<Vec<Entry>, AllocError>
     ensures { IfOk result (λ entries. All (IsAllowed 1) entries.items) }
 {
     let mut entries = Vec::new(alloc);
@@ -225,11 +225,11 @@ fn words_that_are_numbers(rt: HostRuntime) {
         (b"1 ", None),
     ];
     for (word, wanted) in rows {
-        assert_eq!(rt; number_of(word, 65_535), wanted);
+        assert_eq!(rt; number_of(word, 10, 65_535), wanted);
     }
     assert_eq!(rt;
-        number_of(b"18446744073709551615", u64::MAX),
+        number_of(b"18446744073709551615", 10, u64::MAX),
         Some(u64::MAX)
     );
-    assert_eq!(rt; number_of(b"18446744073709551616", u64::MAX), None);
+    assert_eq!(rt; number_of(b"18446744073709551616", 10, u64::MAX), None);
 }

@@ -1,28 +1,104 @@
 // What a single word of a line can be.
-ghost use Rattle.std.specs.Prelude.{◌≡◌, ◌≤◌, ℕ, decimal, IfSome, IfNone};
-ghost use Rattle.sv_form.specs.declared.kind.Kind.{Kind};
-ghost use Rattle.sv_plain.specs.declared.mode.Mode.{Mode};
-ghost use Rattle.sv_journal.specs.Spelling.{kind_text, mode_text};
-ghost use Rattle.sv_journal.specs.Word.{has_leading_zero, value_of};
+ghost use Rattle.std.specs.Prelude.{◌≡◌, ◌≤◌, IfSome};
+ghost use Rattle.std.specs.List.{list_all};
+ghost use Rattle.sv_journal.specs.Outcome.{Gives};
+ghost use Rattle.sv_journal.specs.Word.{below_zero, bytes_of, has_leading_zero, hex_of, is_lower_hex, kind_of, mode_of, name_from, name_of, number_of, offset_of, value_of};
 
-use sv_form::Kind;
+use crate::refusal::Refusal;
+use hex::FromHexError;
+use std::alloc::Global;
+use sv_form::{Bytes, Kind, Name};
 use sv_plain::Mode;
 
+/// The greatest number that stands behind a minus sign.
+const BELOW_ZERO_MAX: u64 = 9223372036854775808;
+
 /// The number that a word is, of at most so much, without sign or leading zero.
-pub fn number_of(word: &[u8], most: u64) -> Option<u64>
-    ensures some { IfSome result (λ n. (n ≤ most) × (word.now ≡ decimal n)) }
-    ensures none { IfNone result ((n : ℕ) → n ≤ most → word.now ≡ decimal n → ⊥) }
+pub fn number_of(word: &[u8], base: u32, most: u64) -> Option<u64>
+    requires least { 2 ≤ base }
+    requires greatest { base ≤ 10 }
+    ensures value { result ≡ number_of base most word.now }
+    ensures most { IfSome result (λ n. n ≤ most) }
 {
     if has_leading_zero(word) {
         return None;
     }
-    value_of(word, most)
+    value_of(word, base, most)
 }
 
-/// The letter of a kind.
+/// The offset that a word is, with a minus sign exactly where it is below zero.
+pub fn offset_of(word: &[u8]) -> Option<i64>
+    ensures { result ≡ offset_of word.now }
+{
+    if !word.is_empty() && word[0] == b'-' {
+        return below_zero(number_of(&word[1..], 10, BELOW_ZERO_MAX)?);
+    }
+    let ahead = number_of(word, 10, BELOW_ZERO_MAX - 1)?;
+    Some(ahead as i64)
+}
+
+fn below_zero(number: u64) -> Option<i64>
+    requires { number ≤ 9223372036854775808 }
+    ensures { result ≡ below_zero number }
+{
+    if number == 0 {
+        return None;
+    }
+    Some(-1 - (number - 1) as i64)
+}
+
+/// The bytes that lower case hexadecimal digits spell, or none for a dash.
+pub fn bytes_of(alloc: Global, word: &[u8]) -> Result<Bytes, Refusal>
+    ensures { Gives (λ bytes. bytes) result (bytes_of word.now) }
+{
+    if word == b"-".as_slice() {
+        return Ok(Bytes::from_vec(Vec::new(alloc)));
+    }
+    if word.is_empty() {
+        return Err(Refusal::Grammar);
+    }
+    Ok(Bytes::from_vec(hex_of(alloc, word)?))
+}
+
+/// The name whose bytes these digits spell.
+pub fn name_of(alloc: Global, word: &[u8]) -> Result<Name, Refusal>
+    ensures { Gives (λ name. name) result (name_of word.now) }
+{
+    let bytes = hex_of(alloc, word)?;
+    let Some(name) = name_from(bytes.as_slice()) else {
+        return Err(Refusal::Grammar);
+    };
+    Ok(name)
+}
+
+fn name_from(bytes: &[u8]) -> Option<Name>
+    ensures { result ≡ name_from bytes.now }
+{
+    Name::read(bytes)
+}
+
+fn hex_of(alloc: Global, word: &[u8]) -> Result<Vec<u8>, Refusal>
+    ensures { Gives (λ bytes. bytes.items) result (hex_of word.now) }
+{
+    if !are_lower_hex(word) {
+        return Err(Refusal::Grammar);
+    }
+    match hex::decode(alloc, word) {
+        Ok(bytes) => Ok(bytes),
+        Err(FromHexError::OutOfMemory) => Err(Refusal::NoMemory),
+        Err(_) => Err(Refusal::Grammar),
+    }
+}
+
+fn are_lower_hex(word: &[u8]) -> bool
+    ensures { result ≡ list_all is_lower_hex word.now }
+{
+    word.iter().all(|b| matches!(*b, b'0'..=b'9' | b'a'..=b'f'))
+}
+
+/// The kind that a letter names.
 pub fn kind_of(word: &[u8]) -> Option<Kind>
-    ensures some { IfSome result (λ kind. word.now ≡ kind_text kind) }
-    ensures none { IfNone result ((kind : Kind) → word.now ≡ kind_text kind → ⊥) }
+    ensures { result ≡ kind_of word.now }
 {
     if word == b"f".as_slice() {
         Some(Kind::File)
@@ -33,10 +109,9 @@ pub fn kind_of(word: &[u8]) -> Option<Kind>
     }
 }
 
-/// The letters of the mode that a file is opened for.
+/// The mode that a file is opened for, by its letters.
 pub fn mode_of(word: &[u8]) -> Option<Mode>
-    ensures some { IfSome result (λ mode. word.now ≡ mode_text mode) }
-    ensures none { IfNone result ((mode : Mode) → word.now ≡ mode_text mode → ⊥) }
+    ensures { result ≡ mode_of word.now }
 {
     if word == b"r".as_slice() {
         Some(Mode::R)
@@ -55,18 +130,21 @@ fn has_leading_zero(word: &[u8]) -> bool
     word.len() > 1 && word[0] == b'0'
 }
 
-fn value_of(word: &[u8], most: u64) -> Option<u64>
-    ensures { result ≡ value_of most word.now }
+fn value_of(word: &[u8], base: u32, most: u64) -> Option<u64>
+    requires least { 2 ≤ base }
+    requires greatest { base ≤ 10 }
+    ensures value { result ≡ value_of base most word.now }
+    ensures most { IfSome result (λ n. n ≤ most) }
 {
     if word.is_empty() {
         return None;
     }
     let mut value: u128 = 0;
     for byte in word {
-        let Some(digit) = char::from(*byte).to_digit(10) else {
+        let Some(digit) = char::from(*byte).to_digit(base) else {
             return None;
         };
-        value = value * 10 + u128::from(digit);
+        value = value * u128::from(base) + u128::from(digit);
         if value > u128::from(most) {
             return None;
         }

@@ -5,7 +5,7 @@ use Rattle.sv_journal.proofs.word.value_of.Given as goal
 
 abbrev pub invariant-loop-byte : goal.invariant-loop-byte
 invariant-loop-byte l = record {
-  digits : (k : ℕ) → k < l.byte-index → digit_value (get_or l.word k 0) < 10;
-  value : l.value ≡ digits_value 10 (take l.byte-index l.word);
+  digits : (k : ℕ) → k < l.byte-index → digit_value (get_or l.word k 0) < l.base;
+  value : l.value ≡ digits_value l.base (take l.byte-index l.word);
   most : l.value ≤ l.most;
 }
