@@ -27,6 +27,10 @@ row 2 '' 'svfs: image refused: 1 Magic 0' cat /dev/null 3
 row 5 '' 'svfs: file fault' cat "$work/none" 3
 row 5 '' 'svfs: file fault' cat "$work" 3
 row 9 '' 'svfs: no such file' cat "$work/image" 2
+row 0 'ok blocks 5 free 0 inodes 16 used 2' '' check "$work/image"
+row 2 '' 'svfs: image refused: 1 Magic 0' check "$work/short"
+row 5 '' 'svfs: file fault' check "$work/none"
+row 1 '' 'svfs: words not understood' check
 
 "$program" cat "$work/image" 3 >/dev/full 2>"$work/note"
 if [ $? != 6 ] || [ "$(cat "$work/note")" != 'svfs: write fault' ]; then

@@ -1,4 +1,5 @@
-pub mod PageSteps
-pub mod ShortFiles
+pub mod CommandLines
+pub mod FileShown
 pub mod NumberWords
-pub mod ThreeWords
+pub mod PageSteps
+pub mod SoundLines

@@ -1,56 +1,99 @@
--- What `cat` answers, for each way that it ends.
-use Rattle.std.specs.Prelude.{◌≡◌, ◌≢◌, ◌⊎◌, ℕ, List, Option, IfSome, IsSomeAnd}
+-- What a command answers, for each way that it ends.
+use Rattle.std.specs.Prelude.{◌≡◌, ◌≢◌, ◌⊎◌, ℕ, List, Option, None, IfSome, IsSomeAnd}
 use Rattle.sv_dev.specs.Told.{grown, AppendsFront}
-use Rattle.sv_form.specs.Image.{geometry_of}
-use Rattle.sv_plain.specs.Front.{front}
+use Rattle.sv_form.specs.Node.{Node}
+use Rattle.sv_check.specs.FilePages.{file_of, text_of}
+use Rattle.sv_check.specs.Sound.{Flaw, IsSound}
 use Rattle.sv_session.specs.declared.stop.Stop.{Stop}
-use Rattle.sv_session.specs.declared.stop.Stop.TheVariants.{Words, Refused, DeviceFault, FileFault, WriteFault, NoMemory, NoSuchFile, TooLarge}
-use Rattle.sv_session.specs.Command.{Command, cat}
+use Rattle.sv_session.specs.declared.stop.Stop.TheVariants.{Words, Refused, DeviceFault, FileFault, WriteFault, NoMemory, NoSuchFile}
+use Rattle.sv_session.specs.Command.{Command, cat, check}
+use Rattle.sv_session.specs.SoundLine.{sound_line}
 use Rattle.sv_session.specs.Stop.{status_of, line_of}
-use Rattle.sv_session.specs.ShortFile.{IsShortFile, IsFlaw, IsMissing, IsLarge}
 
 -- where the host tells its images, one stands under that name, and this holds of it
 abbrev pub OnImage : Option (List ℕ → Option (List ℕ)) → List ℕ → (List ℕ → Type 0) → Type 0
 OnImage images name P = IfSome images (λ under. IsSomeAnd (under name) P)
 
--- the bytes of file n of an image
-abbrev pub text_of : List ℕ → ℕ → List ℕ
-text_of image n = front (geometry_of image) image n
-
--- the file is there, and exactly its bytes were appended
-pub record Shows (n : ℕ) (old new : Option (List ℕ)) (image : List ℕ) : Type 0 where
-  pub file : IsShortFile image n
-  pub text : new ≡ grown old (text_of image n)
-
 -- Each stop has its cause: an image (`on` says that something holds of it), or a count of faults that rose.
-abbrev pub HasReason : ((List ℕ → Type 0) → Type 0) → ℕ → (device file write : Type 0) → Stop → Type 0
-HasReason on n device file write Words = ⊥
-HasReason on n device file write (Refused number place) = on (λ image. IsFlaw image n number place)
-HasReason on n device file write DeviceFault = device
-HasReason on n device file write FileFault = file
-HasReason on n device file write WriteFault = write
-HasReason on n device file write NoMemory = Unit {0}
-HasReason on n device file write NoSuchFile = on (λ image. IsMissing image n)
-HasReason on n device file write TooLarge = on (λ image. IsLarge image n)
+abbrev pub HasReason : ((List ℕ → Type 0) → Type 0) → (missing device file write : Type 0) → Stop → Type 0
+HasReason on missing device file write Words = ⊥
+HasReason on missing device file write (Refused number place) = on (λ image. Flaw image number place)
+HasReason on missing device file write DeviceFault = device
+HasReason on missing device file write FileFault = file
+HasReason on missing device file write WriteFault = write
+HasReason on missing device file write NoMemory = Unit {0}
+HasReason on missing device file write NoSuchFile = missing
+
+-- ---- `cat` of file n
+
+-- the image is sound, and n is a regular file of which this holds
+pub record HasFile (n : ℕ) (P : Node → Type 0) (image : List ℕ) : Type 0 where
+  pub sound : IsSound image
+  pub file : IsSomeAnd (file_of image n) P
+
+-- exactly its bytes were appended
+abbrev pub Shows : ℕ → Option (List ℕ) → Option (List ℕ) → List ℕ → Type 0
+Shows n old new image = HasFile n (λ node. new ≡ grown old (text_of image node)) image
+
+-- a front of them was
+abbrev pub ShowsFront : ℕ → Option (List ℕ) → Option (List ℕ) → List ℕ → Type 0
+ShowsFront n old new image = HasFile n (λ node. AppendsFront old new (text_of image node)) image
+
+-- the image is sound, and n is no regular file
+pub record LacksFile (n : ℕ) (image : List ℕ) : Type 0 where
+  pub sound : IsSound image
+  pub fails : file_of image n ≡ None
 
 -- What a stop leaves in the sink: nothing was written where the image or the file is refused, else at most a front.
 abbrev pub LeavesSink : ((List ℕ → Type 0) → Type 0) → ℕ → Option (List ℕ) → Option (List ℕ) → Stop → Type 0
 LeavesSink on n old new Words = new ≡ old
 LeavesSink on n old new (Refused number place) = new ≡ old
 LeavesSink on n old new NoSuchFile = new ≡ old
-LeavesSink on n old new TooLarge = new ≡ old
-LeavesSink on n old new DeviceFault = (new ≡ old) ⊎ on (λ image. AppendsFront old new (text_of image n))
-LeavesSink on n old new FileFault = (new ≡ old) ⊎ on (λ image. AppendsFront old new (text_of image n))
-LeavesSink on n old new WriteFault = (new ≡ old) ⊎ on (λ image. AppendsFront old new (text_of image n))
-LeavesSink on n old new NoMemory = (new ≡ old) ⊎ on (λ image. AppendsFront old new (text_of image n))
+LeavesSink on n old new DeviceFault = (new ≡ old) ⊎ on (ShowsFront n old new)
+LeavesSink on n old new FileFault = new ≡ old
+LeavesSink on n old new WriteFault = on (ShowsFront n old new)
+LeavesSink on n old new NoMemory = new ≡ old
 
 -- `cat` of file n ended with that status: the file was shown, or a stop is told, with its reason and its line.
 pub record CatAnswer (images : Option (List ℕ → Option (List ℕ))) (name : List ℕ) (n : ℕ) (device file write : Type 0)
     (old new : Option (List ℕ)) (noted : List ℕ → Type 0) (status : ℕ) : Type 0 where
   pub done : status ≡ 0 → OnImage images name (Shows n old new)
-  pub stopped : status ≢ 0 → (stop : Stop) × (status ≡ status_of stop) × HasReason (OnImage images name) n device file write stop
+  pub stopped : status ≢ 0 → (stop : Stop) × (status ≡ status_of stop)
+      × HasReason (OnImage images name) (OnImage images name (LacksFile n)) device file write stop
       × LeavesSink (OnImage images name) n old new stop × noted (line_of stop)
+
+-- ---- `check`
+
+-- the image is sound, and its line was appended
+pub record IsCalledSound (old new : Option (List ℕ)) (image : List ℕ) : Type 0 where
+  pub sound : IsSound image
+  pub line : new ≡ grown old (sound_line image)
+
+-- the image is sound, and a front of its line was appended
+pub record IsCalledSoundInPart (old new : Option (List ℕ)) (image : List ℕ) : Type 0 where
+  pub sound : IsSound image
+  pub front : AppendsFront old new (sound_line image)
+
+-- what a stop leaves in the sink: nothing, or where the sink failed a front of the line
+abbrev pub LeavesLine : ((List ℕ → Type 0) → Type 0) → Option (List ℕ) → Option (List ℕ) → Stop → Type 0
+LeavesLine on old new Words = new ≡ old
+LeavesLine on old new (Refused number place) = new ≡ old
+LeavesLine on old new NoSuchFile = new ≡ old
+LeavesLine on old new DeviceFault = new ≡ old
+LeavesLine on old new FileFault = new ≡ old
+LeavesLine on old new WriteFault = on (IsCalledSoundInPart old new)
+LeavesLine on old new NoMemory = new ≡ old
+
+-- `check` ended with that status: the image is sound, or a stop is told, with its reason and its line.
+pub record CheckAnswer (images : Option (List ℕ → Option (List ℕ))) (name : List ℕ) (device file write : Type 0)
+    (old new : Option (List ℕ)) (noted : List ℕ → Type 0) (status : ℕ) : Type 0 where
+  pub done : status ≡ 0 → OnImage images name (IsCalledSound old new)
+  pub stopped : status ≢ 0 → (stop : Stop) × (status ≡ status_of stop) × HasReason (OnImage images name) ⊥ device file write stop
+      × LeavesLine (OnImage images name) old new stop × noted (line_of stop)
+
+-- ---- any command
 
 -- what a command answers
 abbrev pub Answers : Option (List ℕ → Option (List ℕ)) → (device file write : Type 0) → (old new : Option (List ℕ)) → (List ℕ → Type 0) → ℕ → Command → Type 0
 Answers images device file write old new noted status (cat image n) = CatAnswer images image n device file write old new noted status
+Answers images device file write old new noted status (check image) = CheckAnswer images image device file write old new noted status

@@ -5,7 +5,10 @@ use Rattle.std.specs.Prelude.{◌≡◌, ◌<◌, ◌^◌, ℕ, List, [], ◌∷
 pub data Command : Type 0 where
   -- write the bytes of a regular file
   cat : (image : List ℕ) (inode : ℕ) → Command
+  -- write one line on a sound image
+  check : (image : List ℕ) → Command
 
 -- The words ask for this. A number is decimal digits, without sign or leading zero, `0` itself aside.
 abbrev pub Asks : List (List ℕ) → Command → Type 0
 Asks words (cat image inode) = (inode < 2 ^ 32) × (words ≡ codes "cat" ∷ image ∷ decimal inode ∷ [])
+Asks words (check image) = words ≡ codes "check" ∷ image ∷ []

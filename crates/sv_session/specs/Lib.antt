@@ -1,7 +1,7 @@
 pub mod Answer
 pub mod Command
 pub mod Pages
-pub mod ShortFile
+pub mod SoundLine
 pub mod Stop
 pub mod Transfer
 pub mod Words

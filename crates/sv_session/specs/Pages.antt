@@ -1,5 +1,5 @@
--- The pages of a short file as its inode gives them.
-use Rattle.std.specs.Prelude.{◌≢◌, ◌<◌, ℕ, List, map, slice_index}
+-- The bytes of a page.
+use Rattle.std.specs.Prelude.{◌≢◌, ℕ, List, map}
 use Rattle.std.specs.List.{range_with_len}
 use Rattle.sv_form.specs.declared.geometry.Geometry.{Geometry}
 use Rattle.sv_form.specs.Geometry.{IsDataBlock}
@@ -8,10 +8,6 @@ use Rattle.sv_plain.specs.Front.{page_byte}
 -- an address is 0, which is a hole, or a data block
 abbrev pub IsHoleOrData : Geometry → ℕ → Type 0
 IsHoleOrData g address = address ≢ 0 → IsDataBlock g address
-
--- so is each of the first so many addresses
-abbrev pub AreHolesOrData : Geometry → List ℕ → ℕ → Type 0
-AreHolesOrData g addresses pages = (k : ℕ) → k < pages → IsHoleOrData g (slice_index addresses k)
 
 -- the bytes of the page that an address names, as many as a block has
 abbrev pub page_bytes : Geometry → List ℕ → ℕ → List ℕ

@@ -7,7 +7,7 @@ use Rattle.sv_dev.specs.declared.fault.HostFault.TheVariants as host
 use Rattle.sv_check.specs.declared.fault.CheckFault.{CheckFault}
 use Rattle.sv_check.specs.declared.fault.CheckFault.TheVariants as check
 use Rattle.sv_session.specs.declared.stop.Stop.{Stop}
-use Rattle.sv_session.specs.declared.stop.Stop.TheVariants.{Words, Refused, DeviceFault, FileFault, WriteFault, NoMemory, NoSuchFile, TooLarge}
+use Rattle.sv_session.specs.declared.stop.Stop.TheVariants.{Words, Refused, DeviceFault, FileFault, WriteFault, NoMemory, NoSuchFile}
 
 -- the exit status of the program
 abbrev pub status_of : Stop → ℕ
@@ -18,7 +18,6 @@ status_of FileFault = 5
 status_of WriteFault = 6
 status_of NoMemory = 7
 status_of NoSuchFile = 9
-status_of TooLarge = 10
 
 -- the word of a condition of a sound image, by its number
 abbrev pub word_of : ℕ → List ℕ
@@ -27,7 +26,18 @@ word_of number =
     if number == 2 then codes "BlockSize" else
     if number == 3 then codes "Sizes" else
     if number == 4 then codes "Kind" else
-    if number == 6 then codes "Range" else []
+    if number == 5 then codes "Size" else
+    if number == 6 then codes "Range" else
+    if number == 7 then codes "Twice" else
+    if number == 8 then codes "PastSize" else
+    if number == 9 then codes "Tail" else
+    if number == 10 then codes "FreeChain" else
+    if number == 11 then codes "Lost" else
+    if number == 12 then codes "CachedInode" else
+    if number == 13 then codes "Root" else
+    if number == 14 then codes "Entry" else
+    if number == 15 then codes "Dots" else
+    if number == 16 then codes "Links" else []
 
 -- the line of a refused image: the condition's number and word, and the place
 abbrev pub refusal_of : ℕ → ℕ → List ℕ
@@ -43,7 +53,6 @@ line_of FileFault = codes "svfs: file fault\n"
 line_of WriteFault = codes "svfs: write fault\n"
 line_of NoMemory = codes "svfs: out of memory\n"
 line_of NoSuchFile = codes "svfs: no such file\n"
-line_of TooLarge = codes "svfs: file too large\n"
 
 -- the line went to a sink as a whole, or a front of it did and the sink failed
 abbrev pub Noted : Option (List ℕ) → Option (List ℕ) → ℕ → ℕ → List ℕ → Type 0

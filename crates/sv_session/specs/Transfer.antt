@@ -1,6 +1,6 @@
 -- Why a transfer from the disk to a sink ended early.
 use Rattle.sv_session.specs.declared.stop.Stop.{Stop}
-use Rattle.sv_session.specs.declared.stop.Stop.TheVariants.{Words, Refused, DeviceFault, FileFault, WriteFault, NoMemory, NoSuchFile, TooLarge}
+use Rattle.sv_session.specs.declared.stop.Stop.TheVariants.{Words, Refused, DeviceFault, FileFault, WriteFault, NoMemory, NoSuchFile}
 
 -- the disk failed, or the sink did
 abbrev pub Transfers : (device write : Type 0) → Stop → Type 0
@@ -11,4 +11,3 @@ Transfers device write (Refused number place) = ⊥
 Transfers device write FileFault = ⊥
 Transfers device write NoMemory = ⊥
 Transfers device write NoSuchFile = ⊥
-Transfers device write TooLarge = ⊥

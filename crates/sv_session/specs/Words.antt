@@ -1,8 +1,9 @@
 -- The request that was read from the words, as what they may ask for.
 use Rattle.sv_session.specs.declared.words.Request.{Request}
-use Rattle.sv_session.specs.declared.words.Request.TheVariants.{Cat}
-use Rattle.sv_session.specs.Command.{Command, cat}
+use Rattle.sv_session.specs.declared.words.Request.TheVariants.{Cat, Check}
+use Rattle.sv_session.specs.Command.{Command, cat, check}
 
 -- the command that a request is
 abbrev pub asked : Request → Command
 asked (Cat image inode) = cat image.now inode
+asked (Check image) = check image.now

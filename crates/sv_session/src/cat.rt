@@ -1,10 +1,10 @@
 // `cat`: the bytes of a regular file.
-ghost use Rattle.std.specs.Prelude.{◌≡◌, ◌≢◌, ◌≤◌, length, OnOk, IfErr};
+ghost use Rattle.std.specs.Prelude.{◌≡◌, ◌≢◌, ◌≤◌, OnOk, IfErr};
 ghost use Rattle.sv_dev.specs.Causes.{Rose};
 ghost use Rattle.sv_form.specs.Image.{geometry_of};
-ghost use Rattle.sv_check.specs.Sizes.{IsSized};
+ghost use Rattle.sv_check.specs.Sound.{IsSound};
 ghost use Rattle.sv_session.specs.declared.stop.Stop.{Stop};
-ghost use Rattle.sv_session.specs.Answer.{OnImage, HasReason, LeavesSink, Shows};
+ghost use Rattle.sv_session.specs.Answer.{OnImage, HasReason, LacksFile, LeavesSink, Shows};
 ghost use Rattle.sv_session.specs.Stop.{status_of, line_of, Noted};
 
 use crate::Stop;
@@ -14,14 +14,15 @@ use crate::stop::tell;
 use std::alloc::Global;
 use std::fs::File;
 use std::rt::Files;
-use sv_check::read_sizes;
+use sv_check::{check, read_pages};
 use sv_dev::{Disk, Host, Sink};
 use sv_form::Geometry;
 
-/// Appends the bytes of a regular file of an image to `out`, and answers the exit status. So far a file has at most
-/// ten pages, and only what is said of it is looked at.
+/// Checks an image, appends the bytes of one of its regular files to `out`, and answers the exit status. A hole is zero
+/// bytes.
 ///
-/// It makes at most twelve reads of the disk. It returns always.
+/// After the check it reads the file's inode twice, each of its indirect blocks once, and each of its pages once, the
+/// last one twice. It returns always.
 pub fn cat_image<R: Files<File = File>, H: Host, O: Sink>(
     rt: &R,
     alloc: Global,
@@ -33,7 +34,7 @@ pub fn cat_image<R: Files<File = File>, H: Host, O: Sink>(
 ) -> u8
     ensures done { result ≡ 0 → OnImage (H.images host.old) image.now (Shows inode (O.written out.old) (O.written out.new)) }
     ensures stopped { result ≢ 0 → (stop : Stop) × (result ≡ status_of stop)
-        × HasReason (OnImage (H.images host.old) image.now) inode (Rose (H.disk_faults host.old) (H.disk_faults host.new))
+        × HasReason (OnImage (H.images host.old) image.now) (OnImage (H.images host.old) image.now (LacksFile inode)) (Rose (H.disk_faults host.old) (H.disk_faults host.new))
         (Rose (H.faults host.old) (H.faults host.new)) (Rose (O.faults out.old) (O.faults out.new)) stop
         × LeavesSink (OnImage (H.images host.old) image.now) inode (O.written out.old) (O.written out.new) stop
         × Noted (O.written note.old) (O.written note.new) (O.faults note.old) (O.faults note.new) (line_of stop) }
@@ -57,7 +58,7 @@ fn cat<R: Files<File = File>, H: Host, O: Sink>(
     out: &mut O,
 ) -> Result<(), Stop>
     ensures done { OnOk result (OnImage (H.images host.old) image.now (Shows inode (O.written out.old) (O.written out.new))) }
-    ensures reason { IfErr result (HasReason (OnImage (H.images host.old) image.now) inode (Rose (H.disk_faults host.old) (H.disk_faults host.new))
+    ensures reason { IfErr result (HasReason (OnImage (H.images host.old) image.now) (OnImage (H.images host.old) image.now (LacksFile inode)) (Rose (H.disk_faults host.old) (H.disk_faults host.new))
         (Rose (H.faults host.old) (H.faults host.new)) (Rose (O.faults out.old) (O.faults out.new))) }
     ensures left { IfErr result (LeavesSink (OnImage (H.images host.old) image.now) inode (O.written out.old) (O.written out.new)) }
     ensures images { H.images host.new ≡ H.images host.old }
@@ -77,35 +78,35 @@ pub(crate) fn cat_disk<D: Disk, O: Sink>(
     out: &mut O,
 ) -> Result<(), Stop>
     ensures done { OnOk result (Shows inode (O.written out.old) (O.written out.new) (D.content disk.old)) }
-    ensures reason { IfErr result (HasReason (λ P. P (D.content disk.old)) inode (Rose (D.faults disk.old) (D.faults disk.new)) ⊥
+    ensures reason { IfErr result (HasReason (λ P. P (D.content disk.old)) (LacksFile inode (D.content disk.old)) (Rose (D.faults disk.old) (D.faults disk.new)) ⊥
         (Rose (O.faults out.old) (O.faults out.new))) }
     ensures left { IfErr result (LeavesSink (λ P. P (D.content disk.old)) inode (O.written out.old) (O.written out.new)) }
     ensures content { D.content disk.new ≡ D.content disk.old }
     ensures faults { D.faults disk.old ≤ D.faults disk.new }
 {
-    let sizes = read_sizes(disk)?.geometry();
-    let mut block = vec![in alloc; 0; sizes.block_size as usize]?;
-    cat_sized(disk, &sizes, inode, &mut block, out)
+    let mounted = check(alloc, disk)?;
+    cat_sound(alloc, disk, &mounted.geometry, inode, out)
 }
 
-// The same over a disk whose sizes are known. The slice has a block's length.
-fn cat_sized<D: Disk, O: Sink>(
+// The same over a disk whose image is sound.
+fn cat_sound<D: Disk, O: Sink>(
+    alloc: Global,
     disk: &mut D,
     sizes: &Geometry,
     inode: u32,
-    block: &mut [u8],
     out: &mut O,
 ) -> Result<(), Stop>
-    requires sized { IsSized (D.content disk.old) }
+    requires sound { IsSound (D.content disk.old) }
     requires sizes { sizes.now ≡ geometry_of (D.content disk.old) }
-    requires block { length block.old ≡ sizes.now.block_size }
     ensures done { OnOk result (Shows inode (O.written out.old) (O.written out.new) (D.content disk.old)) }
-    ensures reason { IfErr result (HasReason (λ P. P (D.content disk.old)) inode (Rose (D.faults disk.old) (D.faults disk.new)) ⊥
+    ensures reason { IfErr result (HasReason (λ P. P (D.content disk.old)) (LacksFile inode (D.content disk.old)) (Rose (D.faults disk.old) (D.faults disk.new)) ⊥
         (Rose (O.faults out.old) (O.faults out.new))) }
     ensures left { IfErr result (LeavesSink (λ P. P (D.content disk.old)) inode (O.written out.old) (O.written out.new)) }
     ensures content { D.content disk.new ≡ D.content disk.old }
     ensures faults { D.faults disk.old ≤ D.faults disk.new }
 {
-    let body = find_file(disk, sizes, inode, block)?;
-    write_file(disk, sizes, &body, block, out)
+    let mut block = vec![in alloc; 0; sizes.block_size as usize]?;
+    let (number, size) = find_file(disk, sizes, inode, &mut block)?;
+    let pages = read_pages(alloc, disk, sizes, number, &mut block)?;
+    write_file(disk, sizes, &pages, size, &mut block, out)
 }

@@ -2,8 +2,10 @@
 #![tactic(auto)]
 
 mod cat;
+mod check;
 mod find;
 mod pages;
+mod sound_line;
 mod stop;
 #[cfg(test)]
 mod tests;
@@ -11,5 +13,6 @@ mod top;
 mod words;
 
 pub use cat::cat_image;
+pub use check::check_image;
 pub use stop::{Stop, tell};
 pub use top::svfs;

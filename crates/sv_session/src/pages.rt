@@ -1,52 +1,48 @@
-// The pages of a short file, from the disk to the sink.
-ghost use Rattle.std.specs.Prelude.{◌≡◌, ◌<◌, ◌≤◌, ◌*◌, ℕ, length, map, slice_index, IfErr, OnOk, OnErr};
+// The pages of a file, from the disk to the sink.
+ghost use Rattle.std.specs.Prelude.{◌≡◌, ◌≤◌, ◌*◌, length, map, IfErr, OnOk, OnErr};
 ghost use Rattle.std.specs.List.{range_with_len};
 ghost use Rattle.sv_dev.specs.Causes.{HasCause, Rose};
 ghost use Rattle.sv_dev.specs.Told.{grown, AppendsFront};
 ghost use Rattle.sv_form.specs.Geometry.{IsGeometry};
 ghost use Rattle.sv_plain.specs.Front.{page_byte, file_bytes};
+ghost use Rattle.sv_check.specs.FilePages.{AreInData, AreInOrder, block_at};
 ghost use Rattle.sv_session.specs.Pages.{IsHoleOrData, page_bytes};
 ghost use Rattle.sv_session.specs.Transfer.{Transfers};
 
 use crate::Stop;
-use sv_check::read_block;
+use sv_check::{PageBlock, next_block, read_block};
 use sv_dev::{Disk, Failed, Sink};
-use sv_form::{Geometry, InodeBody};
+use sv_form::Geometry;
 
-/// Writes the bytes of a file that has direct blocks alone, page by page. The slice has a block's length.
+/// Writes the bytes of a file of that size whose pages stand in these blocks, page by page; an absent page is zero bytes.
+/// It reads each page once. The slice has a block's length.
 pub fn write_file<D: Disk, O: Sink>(
     disk: &mut D,
     sizes: &Geometry,
-    body: &InodeBody,
+    pages: &[PageBlock],
+    size: u32,
     block: &mut [u8],
     out: &mut O,
 ) -> Result<(), Stop>
     requires sizes { IsGeometry sizes.now }
     requires length { length (D.content disk.old) ≡ sizes.now.blocks * sizes.now.block_size }
     requires block { length block.old ≡ sizes.now.block_size }
-    requires addresses { length body.now.addresses ≡ 13 }
-    requires short { body.now.size ≤ 10 * sizes.now.block_size }
-    requires pages { (k : ℕ) → k * sizes.now.block_size < body.now.size → IsHoleOrData sizes.now (slice_index body.now.addresses k) }
+    requires inside { AreInData sizes.now pages.now }
+    requires order { AreInOrder pages.now }
     ensures ok { OnOk result (O.written out.new ≡ grown (O.written out.old)
-        (file_bytes sizes.now (D.content disk.old) (slice_index body.now.addresses) body.now.size)) }
+        (file_bytes sizes.now (D.content disk.old) (block_at pages.now) size)) }
     ensures err { OnErr result (AppendsFront (O.written out.old) (O.written out.new)
-        (file_bytes sizes.now (D.content disk.old) (slice_index body.now.addresses) body.now.size)) }
+        (file_bytes sizes.now (D.content disk.old) (block_at pages.now) size)) }
     ensures reason { IfErr result (Transfers (Rose (D.faults disk.old) (D.faults disk.new)) (Rose (O.faults out.old) (O.faults out.new))) }
     ensures content { D.content disk.new ≡ D.content disk.old }
     ensures disk_faults { D.faults disk.old ≤ D.faults disk.new }
     ensures sink_faults { O.faults out.old ≤ O.faults out.new }
 {
-    let pages = body.size.div_ceil(sizes.block_size);
-    for page in 0..pages {
-        let count = sizes.block_size.min(body.size - page * sizes.block_size);
-        write_page(
-            disk,
-            sizes,
-            body.addresses[page as usize],
-            block,
-            count,
-            out,
-        )?;
+    let mut at = 0;
+    for page in 0..size.div_ceil(sizes.block_size) {
+        let count = sizes.block_size.min(size - page * sizes.block_size);
+        let address = next_block(pages, &mut at, page);
+        write_page(disk, sizes, address, block, count, out)?;
     }
     Ok(())
 }

@@ -23,7 +23,6 @@ pub enum Stop {
     WriteFault,
     NoMemory,
     NoSuchFile,
-    TooLarge,
 }
 
 impl Stop {
@@ -41,7 +40,6 @@ impl Stop {
             Stop::WriteFault => 6,
             Stop::NoMemory => 7,
             Stop::NoSuchFile => 9,
-            Stop::TooLarge => 10,
         }
     }
 }
@@ -62,7 +60,6 @@ impl Stop {
             Stop::WriteFault => line.push_str("svfs: write fault\n"),
             Stop::NoMemory => line.push_str("svfs: out of memory\n"),
             Stop::NoSuchFile => line.push_str("svfs: no such file\n"),
-            Stop::TooLarge => line.push_str("svfs: file too large\n"),
         }
         line
     }
@@ -93,7 +90,18 @@ fn word(number: u8) -> &'static str
         2 => "BlockSize",
         3 => "Sizes",
         4 => "Kind",
+        5 => "Size",
         6 => "Range",
+        7 => "Twice",
+        8 => "PastSize",
+        9 => "Tail",
+        10 => "FreeChain",
+        11 => "Lost",
+        12 => "CachedInode",
+        13 => "Root",
+        14 => "Entry",
+        15 => "Dots",
+        16 => "Links",
         _ => "",
     }
 }

@@ -2,6 +2,7 @@
 ghost use Rattle.std.specs.Prelude.{◌+◌, ◌<◌, ◌^◌, length};
 
 use crate::cat::cat_disk;
+use crate::check::check_disk;
 use crate::{Stop, svfs};
 use std::alloc::{AllocError, Global};
 use std::fs::File;
@@ -10,7 +11,7 @@ use std::rt::Files;
 use std::sync::Wait;
 use std::test::Fail as Failure;
 use std::thread::Threads;
-use sv_dev::{Fail, MemDisk, MemHost, MemSink, NoWatch};
+use sv_dev::{Access, Fail, MemDisk, MemHost, MemSink, NoWatch};
 
 // An image of 5 blocks and 16 inodes. Inode 2 is the root, and inode 3 a file of 6 bytes in block 4.
 fn small_image(alloc: Global) -> Result<Vec<u8>, AllocError> {
@@ -64,32 +65,36 @@ fn run<R: Files<File = File> + AllocGlobal + Threads + Wait>(
     Ok(Done { status, out, note })
 }
 
-// The small image with these bytes in place of what stands there.
-fn changed(alloc: Global, at: usize, bytes: &[u8]) -> Result<Vec<u8>, AllocError>
-    requires { at + length bytes.now < 2 ^ 32 }
-{
+// Bytes, and where in the image they stand in place of what stands there.
+type Change<'a> = (usize, &'a [u8]);
+
+// The small image, changed.
+fn changed(alloc: Global, changes: &[Change]) -> Result<Vec<u8>, AllocError> {
     let mut image = small_image(alloc)?;
-    put(&mut image, at, bytes);
+    for (at, bytes) in changes {
+        put_short(&mut image, *at, bytes);
+    }
     Ok(image)
 }
 
-// The small image, with a change, is answered by this status, these bytes and this line.
+// The same, where the place and the bytes are small.
+fn put_short(image: &mut Vec<u8>, at: usize, bytes: &[u8]) {
+    if at <= 5_120 && bytes.len() <= 1_024 {
+        put(image, at, bytes);
+    }
+}
+
+// The small image, changed, is answered by this status, these bytes and this line.
 fn gives<R: Files<File = File> + AllocGlobal + Threads + Wait + Abort>(
     rt: &R,
-    change: (usize, &[u8]),
+    changes: &[Change],
     words: &[&str],
     status: u8,
     out: &[u8],
     note: &[u8],
 ) -> Result<(), Failure> {
     let alloc = rt.alloc();
-    if change.0 > 5_120 {
-        return Ok(());
-    }
-    if change.1.len() > 1_024 {
-        return Ok(());
-    }
-    let image = changed(alloc, change.0, change.1)?;
+    let image = changed(alloc, changes)?;
     let done = run(rt, image, Vec::new(alloc), Vec::new(alloc), words)?;
     assert_eq!(rt; done.status, status);
     assert_eq!(rt; done.out.written(), out);
@@ -97,147 +102,163 @@ fn gives<R: Files<File = File> + AllocGlobal + Threads + Wait + Abort>(
     Ok(())
 }
 
+const INODE_2: usize = 2_112;
+
 const INODE_3: usize = 2_176;
 
 #[test]
 fn words_and_numbers(rt: HostRuntime) -> Result<(), Failure> {
-    let same = (0, b"".as_slice());
     let missing = b"svfs: no such file\n".as_slice();
     let unread = b"svfs: words not understood\n".as_slice();
-    gives(&rt, same, &["cat", "E", "3"], 0, b"hello\n", b"")?;
+    gives(&rt, &[], &["cat", "E", "3"], 0, b"hello\n", b"")?;
     for inode in ["0", "2", "4", "17", "4294967295"] {
-        gives(&rt, same, &["cat", "E", inode], 9, b"", missing)?;
+        gives(&rt, &[], &["cat", "E", inode], 9, b"", missing)?;
     }
     for inode in ["03", "", "+3", "3 ", "4294967296"] {
-        gives(&rt, same, &["cat", "E", inode], 1, b"", unread)?;
+        gives(&rt, &[], &["cat", "E", inode], 1, b"", unread)?;
     }
-    gives(&rt, same, &["cat", "E"], 1, b"", unread)?;
-    gives(&rt, same, &[], 1, b"", unread)?;
-    gives(&rt, same, &["cat", "F", "3"], 5, b"", b"svfs: file fault\n")
+    gives(&rt, &[], &["cat", "E"], 1, b"", unread)?;
+    gives(&rt, &[], &[], 1, b"", unread)?;
+    gives(&rt, &[], &["check"], 1, b"", unread)?;
+    gives(&rt, &[], &["check", "E", "3"], 1, b"", unread)?;
+    gives(&rt, &[], &["cat", "F", "3"], 5, b"", b"svfs: file fault\n")?;
+    gives(&rt, &[], &["check", "F"], 5, b"", b"svfs: file fault\n")
 }
 
 #[test]
-fn damaged_images(rt: HostRuntime) -> Result<(), Failure> {
-    let cat = ["cat", "E", "3"];
-    gives(
-        &rt,
-        (INODE_3 + 8, b"\x01\x28"),
-        &cat,
-        10,
-        b"",
-        b"svfs: file too large\n",
-    )?;
-    gives(&rt, (INODE_3 + 8, b"\0"), &cat, 0, b"", b"")?;
-    gives(
-        &rt,
-        (INODE_3 + 12, b"\x05"),
-        &cat,
-        2,
-        b"",
-        b"svfs: image refused: 6 Range 3\n",
-    )?;
-    gives(
-        &rt,
-        (INODE_3 + 12, b"\x02"),
-        &cat,
-        2,
-        b"",
-        b"svfs: image refused: 6 Range 3\n",
-    )?;
-    gives(
-        &rt,
-        (512, b"\0"),
-        &cat,
-        2,
-        b"",
-        b"svfs: image refused: 1 Magic 0\n",
-    )?;
-    gives(
-        &rt,
-        (516, b"\x03"),
-        &cat,
-        2,
-        b"",
-        b"svfs: image refused: 2 BlockSize 3\n",
-    )?;
-    gives(
-        &rt,
-        (520, b"\x06"),
-        &cat,
-        2,
-        b"",
-        b"svfs: image refused: 3 Sizes 0\n",
-    )?;
-    gives(
-        &rt,
-        (INODE_3 + 51, b"\x01"),
-        &cat,
-        2,
-        b"",
-        b"svfs: image refused: 4 Kind 3\n",
-    )
+fn sound_image(rt: HostRuntime) -> Result<(), Failure> {
+    let line = b"ok blocks 5 free 0 inodes 16 used 2\n";
+    gives(&rt, &[], &["check", "E"], 0, line, b"")
 }
 
-// Ten pages, of which the first is block 4 and the others are holes.
-#[test]
-fn holes(rt: HostRuntime) -> Result<(), Failure> {
+// A change, and what is noted after `svfs: image refused: `, by `check` and by `cat` alike.
+fn is_refused<R: Files<File = File> + AllocGlobal + Threads + Wait + Abort>(
+    rt: &R,
+    changes: &[Change],
+    why: &str,
+) -> Result<(), Failure> {
     let alloc = rt.alloc();
-    let image = changed(alloc, INODE_3 + 8, b"\0\x28")?;
+    let mut note = String::from_str(alloc, "svfs: image refused: ")?;
+    note.push_str(why)?;
+    note.push_str("\n")?;
+    gives(rt, changes, &["check", "E"], 2, b"", note.as_bytes())?;
+    gives(rt, changes, &["cat", "E", "3"], 2, b"", note.as_bytes())
+}
+
+#[test]
+fn damaged_sizes_and_inodes(rt: HostRuntime) -> Result<(), Failure> {
+    is_refused(&rt, &[(512, b"\0")], "1 Magic 0")?;
+    is_refused(&rt, &[(516, b"\x03")], "2 BlockSize 3")?;
+    is_refused(&rt, &[(520, b"\x06")], "3 Sizes 0")?;
+    is_refused(
+        &rt,
+        &[(2_048, b"\xa4\x81\x01\0\0\0\0\0\x06\0\0\0\x04")],
+        "4 Kind 1",
+    )?;
+    is_refused(&rt, &[(INODE_3 + 51, b"\x01")], "4 Kind 3")?;
+    is_refused(&rt, &[(INODE_2 + 8, b"\x28")], "5 Size 2")?;
+    is_refused(&rt, &[(INODE_3 + 12, b"\x05")], "6 Range 3")?;
+    is_refused(&rt, &[(INODE_3 + 12, b"\x02")], "6 Range 3")?;
+    is_refused(&rt, &[(INODE_3 + 12, b"\x03")], "7 Twice 3")?;
+    is_refused(&rt, &[(INODE_3 + 8, b"\0")], "8 PastSize 3")?;
+    is_refused(&rt, &[(4_196, b"\x01")], "9 Tail 3")
+}
+
+#[test]
+fn damaged_lists_and_directories(rt: HostRuntime) -> Result<(), Failure> {
+    is_refused(&rt, &[(524, b"\x02\0\0\0\0\0\0\0\x03")], "10 FreeChain 3")?;
+    is_refused(&rt, &[(INODE_3 + 12, b"\0")], "11 Lost 4")?;
+    is_refused(&rt, &[(526, b"\x01"), (728, b"\x03")], "12 CachedInode 3")?;
+    is_refused(&rt, &[(INODE_2 + 1, b"\x81")], "13 Root 2")?;
+    is_refused(&rt, &[(3_106, b"/")], "14 Entry 2")?;
+    is_refused(&rt, &[(3_088, b"\x03")], "15 Dots 2")?;
+    is_refused(&rt, &[(INODE_2 + 2, b"\x03")], "16 Links 2")
+}
+
+#[test]
+fn image_cut_short(rt: HostRuntime) -> Result<(), Failure> {
+    let alloc = rt.alloc();
+    let mut image = small_image(alloc)?;
+    image.truncate(5_119);
     let done = run(
         &rt,
         image,
         Vec::new(alloc),
         Vec::new(alloc),
-        &["cat", "E", "3"],
+        &["check", "E"],
     )?;
+    assert_eq!(rt; done.status, 2);
+    assert_eq!(rt;
+        done.note.written(),
+        b"svfs: image refused: 3 Sizes 0\n".as_slice()
+    );
+    Ok(())
+}
+
+// Eleven pages, of which the first is block 4 and the others are holes.
+#[test]
+fn holes(rt: HostRuntime) -> Result<(), Failure> {
+    let alloc = rt.alloc();
+    let image = changed(alloc, &[(INODE_3 + 8, b"\x01\x28")])?;
+    let cat = ["cat", "E", "3"];
+    let done = run(&rt, image, Vec::new(alloc), Vec::new(alloc), &cat)?;
     assert_eq!(rt; done.status, 0);
-    assert_eq!(rt; done.out.written().len(), 10_240);
+    assert_eq!(rt; done.out.written().len(), 10_241);
     assert_eq!(rt; &done.out.written()[..6], b"hello\n".as_slice());
     assert!(rt; done.out.written().iter().skip(6).all(|byte| *byte == 0));
     Ok(())
 }
 
-// Ten pages that are all block 4: a superblock, an inode and ten pages are read, and each of those reads may fail.
+// Each read that `cat` makes may fail.
 #[test]
-fn each_failure_in_turn(rt: HostRuntime) -> Result<(), Failure> {
+fn each_read_failing(rt: HostRuntime) -> Result<(), Failure> {
     let alloc = rt.alloc();
-    let cat = ["cat", "E", "3"];
-    for failing in 1..=13u64 {
-        let image = changed(alloc, INODE_3 + 8, TEN_PAGES)?;
+    let mut disk = MemDisk::new(small_image(alloc)?, Vec::new(alloc));
+    let mut out = MemSink::new(Vec::new(alloc));
+    assert_eq!(rt; cat_disk(alloc, &mut disk, 3, &mut out), Ok(()));
+    let reads = disk.log().len() as u64;
+    for failing in 1..=reads + 1 {
         let fails = vec![in alloc; Fail::Read(failing)]?;
-        let done = run(&rt, image, fails, Vec::new(alloc), &cat)?;
-        assert_eq!(rt;
-            done.status,
-            if failing < 13 { 4 } else { 0 },
-            "read {failing}"
-        );
-        let pages = failing.saturating_sub(3).min(10) as usize;
-        assert_eq!(rt; done.out.written().len(), 1_024 * pages, "read {failing}");
-    }
-    for failing in 1..=11u64 {
-        let image = changed(alloc, INODE_3 + 8, TEN_PAGES)?;
-        let done = run(&rt, image, Vec::new(alloc), vec![in alloc; failing]?, &cat)?;
-        assert_eq!(rt;
-            done.status,
-            if failing < 11 { 6 } else { 0 },
-            "write {failing}"
-        );
+        let cat = ["cat", "E", "3"];
+        let done = run(&rt, small_image(alloc)?, fails, Vec::new(alloc), &cat)?;
+        let status = if failing <= reads { 4 } else { 0 };
+        assert_eq!(rt; done.status, status, "read {failing}");
     }
     Ok(())
 }
 
-// A size of ten pages, and block 4 in each of the ten direct addresses.
-const TEN_PAGES: &[u8] =
-    b"\0\x28\0\0\x04\0\0\x04\0\0\x04\0\0\x04\0\0\x04\0\0\x04\0\0\x04\0\0\x04\0\0\x04\0\0\x04\0\0";
-
+// The first write to `out` fails.
 #[test]
-fn twelve_reads(rt: HostRuntime) -> Result<(), Failure> {
+fn sink_failing(rt: HostRuntime) -> Result<(), Failure> {
     let alloc = rt.alloc();
-    let image = changed(alloc, INODE_3 + 8, TEN_PAGES)?;
-    let mut disk = MemDisk::new(image, Vec::new(alloc));
+    for words in [["cat", "E", "3"].as_slice(), ["check", "E"].as_slice()] {
+        let image = small_image(alloc)?;
+        let done = run(&rt, image, Vec::new(alloc), vec![in alloc; 1]?, words)?;
+        assert_eq!(rt; done.status, 6);
+        assert_eq!(rt; done.note.written(), b"svfs: write fault\n".as_slice());
+    }
+    Ok(())
+}
+
+// How often a block was read.
+fn reads_of(log: &[Access], block: u64) -> usize {
+    let is_read = |access: &&Access| match access {
+        Access::Read(at) => at / 1_024 == block,
+        Access::Write(_) => false,
+    };
+    log.iter().filter(is_read).count()
+}
+
+// A check reads no block more than twice.
+#[test]
+fn no_block_read_three_times(rt: HostRuntime) -> Result<(), Failure> {
+    let alloc = rt.alloc();
+    let mut disk = MemDisk::new(small_image(alloc)?, Vec::new(alloc));
     let mut out = MemSink::new(Vec::new(alloc));
-    assert_eq!(rt; cat_disk(alloc, &mut disk, 3, &mut out), Ok(()));
-    assert_eq!(rt; disk.log().len(), 12);
+    assert_eq!(rt; check_disk(alloc, &mut disk, &mut out), Ok(()));
+    for block in 0..5 {
+        assert!(rt; reads_of(disk.log(), block) <= 2, "block {block}");
+    }
     assert_eq!(rt;
         cat_disk(alloc, &mut disk, 4, &mut out),
         Err(Stop::NoSuchFile)

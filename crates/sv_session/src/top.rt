@@ -7,6 +7,7 @@ ghost use Rattle.sv_session.specs.Stop.{line_of, Noted};
 ghost use Rattle.sv_session.specs.declared.stop.Stop.TheVariants.{Words};
 
 use crate::cat::cat_image;
+use crate::check::check_image;
 use crate::stop::{Stop, tell};
 use crate::words::{Request, read_words};
 use std::alloc::Global;
@@ -41,5 +42,6 @@ pub fn svfs<R: Files<File = File> + Threads + Wait, H: Host, W: Watch, O: Sink>(
     match read_words(words) {
         None => tell(&Stop::Words, note),
         Some(Request::Cat { image, inode }) => cat_image(rt, alloc, host, image, inode, out, note),
+        Some(Request::Check { image }) => check_image(rt, alloc, host, image, out, note),
     }
 }

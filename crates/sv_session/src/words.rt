@@ -1,6 +1,6 @@
 // The words of the command line.
-ghost use Rattle.std.specs.Prelude.{◌≡◌, ◌≢◌, ◌<◌, ◌≤◌, ◌^◌, ◌↔◌, ℕ, map, length, slice_index, string_bytes, decimal, IsTrue, IfSome, IfNone};
-ghost use Rattle.sv_session.specs.Command.{Command, Asks};
+ghost use Rattle.std.specs.Prelude.{◌≡◌, ◌≢◌, ◌<◌, ◌≤◌, ◌^◌, ◌↔◌, ℕ, List, map, length, slice_index, string_bytes, decimal, IsTrue, IfSome, IfNone};
+ghost use Rattle.sv_session.specs.Command.{Command, Asks, cat, check};
 ghost use Rattle.sv_session.specs.Words.{asked};
 
 /// What the words of the command line ask for.
@@ -8,12 +8,41 @@ ghost use Rattle.sv_session.specs.Words.{asked};
 pub enum Request<'a> {
     /// Write the bytes of a regular file.
     Cat { image: &'a str, inode: u32 },
+    /// Write one line on a sound image.
+    Check { image: &'a str },
 }
 
 /// Reads the words after the program's name. A number is decimal digits, without sign or leading zero.
 pub fn read_words(words: &[String]) -> Option<Request<'_>>
     ensures some { IfSome result (λ request. Asks (map string_bytes words.now) (asked request)) }
     ensures none { IfNone result ((command : Command) → Asks (map string_bytes words.now) command → ⊥) }
+{
+    match read_check(words) {
+        Some(request) => Some(request),
+        None => read_cat(words),
+    }
+}
+
+// `check IMAGE`.
+fn read_check(words: &[String]) -> Option<Request<'_>>
+    ensures some { IfSome result (λ request. Asks (map string_bytes words.now) (asked request)) }
+    ensures none { IfNone result ((image : List ℕ) → Asks (map string_bytes words.now) (check image) → ⊥) }
+{
+    let [command, image] = words else {
+        return None;
+    };
+    if command.as_str() != "check" {
+        return None;
+    }
+    Some(Request::Check {
+        image: image.as_str(),
+    })
+}
+
+// `cat IMAGE INODE`.
+fn read_cat(words: &[String]) -> Option<Request<'_>>
+    ensures some { IfSome result (λ request. Asks (map string_bytes words.now) (asked request)) }
+    ensures none { IfNone result ((image : List ℕ) (inode : ℕ) → Asks (map string_bytes words.now) (cat image inode) → ⊥) }
 {
     let [command, image, inode] = words else {
         return None;

@@ -1,10 +1,17 @@
--- A command line of three words.
+-- The command lines of two and of three words.
 use Rattle.std.proofs.Common.{◌≡◌, ◌<◌, ◌≤◌, ℕ, List, [], ◌∷◌, length, get_or, map, false, not, arith, sym, ◌∙◌, ap, String, string_bytes, Global, codes, decimal}
 use Rattle.std.specs.Str.{bytes_eq}
+use Rattle.sv_session.specs.Command.{Asks, Command, cat, check}
 use Rattle.std.proofs.lemmas.Bool.{not-false}
 use Rattle.std.proofs.lemmas.Slice.Eq.{bytes_eq-Decides}
 
--- a list of three is its elements
+-- a list of two, and one of three, is its elements
+two : {X : Type 0} (xs : List X) (a b : X) → 2 ≤ length xs → length xs < 3 → a ≡ get_or xs 0 a → b ≡ get_or xs 1 b → xs ≡ a ∷ b ∷ []
+two [] a b least most first second = absurd (omega arith)
+two (x ∷ []) a b least most first second = absurd (omega arith)
+two (x ∷ y ∷ []) a b least most first second = cc
+two (x ∷ y ∷ z ∷ more) a b least most first second = absurd (omega arith)
+
 three : {X : Type 0} (xs : List X) (a b c : X) → 3 ≤ length xs → length xs < 4 → a ≡ get_or xs 0 a → b ≡ get_or xs 1 b → c ≡ get_or xs 2 c
     → xs ≡ a ∷ b ∷ c ∷ []
 three [] a b c least most first second third = absurd (omega arith)
@@ -32,3 +39,18 @@ cat_words words a b c least most first second third command image number n is_co
     texts ∙ ap (λ (w : List ℕ). w ∷ string_bytes b ∷ string_bytes c ∷ []) (sym is_command ∙ same)
     ∙ ap (λ (w : List ℕ). codes "cat" ∷ w ∷ string_bytes c ∷ []) (sym is_image)
     ∙ ap (λ (w : List ℕ). codes "cat" ∷ image ∷ w ∷ []) (sym is_number ∙ value)
+
+-- the words are a `check` of that image
+pub check_words : (words : List (String Global)) (a b : String Global) → 2 ≤ length words → length words < 3 → a ≡ get_or words 0 a → b ≡ get_or words 1 b
+    → (command image : List ℕ) → command ≡ string_bytes a → false ≡ not (bytes_eq command (codes "check")) → image ≡ string_bytes b
+    → map string_bytes words ≡ codes "check" ∷ image ∷ []
+check_words words a b least most first second command image is_command is_check is_image =
+    let same : command ≡ codes "check" = same_text command (codes "check") is_check in
+    ap (map string_bytes) (two words a b least most first second) ∙ ap (λ (w : List ℕ). w ∷ string_bytes b ∷ []) (sym is_command ∙ same)
+    ∙ ap (λ (w : List ℕ). codes "check" ∷ w ∷ []) (sym is_image)
+
+-- the words ask for nothing
+pub no_command : (words : List (List ℕ)) → ((image : List ℕ) → Asks words (check image) → ⊥) → ((image : List ℕ) (inode : ℕ) → Asks words (cat image inode) → ⊥)
+    → (command : Command) → Asks words command → ⊥
+no_command words no_check no_cat (cat image inode) asks = no_cat image inode asks
+no_command words no_check no_cat (check image) asks = no_check image asks

@@ -1,6 +1,6 @@
 use Rattle.std.proofs.Common.{arith}
-use Rattle.sv_session.proofs.ThreeWords.{cat_words}
-use Rattle.sv_session.proofs.words.read_words.Goals as goal
+use Rattle.sv_session.proofs.CommandLines.{cat_words}
+use Rattle.sv_session.proofs.words.read_cat.Goals as goal
 
 pub returns-clause-some : goal.returns-clause-some
 returns-clause-some c = (
