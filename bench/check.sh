@@ -1,0 +1,33 @@
+#!/usr/bin/env bash
+# Times `svfs check` on images of 64 MiB beside fsck.minix -f and e2fsck -fn on images with as many files and bytes. Run it at
+# the top of the repository, where the program is built: bench/check.sh. It wants python3, mkfs.minix and mke2fs.
+#
+# files    200 directories with 90 files of 2,500 bytes each
+# wide     one directory with 1,000,000 entries, which name 1,000 files
+# deep     30,000 directories, each in the one before
+# named    one file that 1,000 entries name
+# empty    the root alone: a chain of over 65,000 free blocks
+# unread   `files` with a wrong first byte: what is left is the reading of the image file into memory
+set -eu
+top=$(cd "$(dirname "$0")/.." && pwd)
+work=$(mktemp -d)
+trap 'rm -rf "$work"' EXIT
+"$top/svfs" check "$top/crates/svfs/data/E" >/dev/null
+program=$top/crates/svfs/out/svfs
+python3 "$top/bench/images.py" "$work"
+
+timed() { # name, words: the least of five runs, in seconds
+    local name=$1 best=; shift
+    for _ in 1 2 3 4 5; do
+        local start end
+        start=$(date +%s%N); "$@" >"$work/out" 2>&1 || true; end=$(date +%s%N)
+        [ -n "$best" ] && [ $((end - start)) -ge "$best" ] || best=$((end - start))
+    done
+    printf '%-22s %6d.%03d ms   %s\n' "$name" $((best / 1000000)) $((best / 1000 % 1000)) "$(tail -1 "$work/out")"
+}
+
+for image in files wide deep named empty unread; do
+    timed "svfs $image" "$program" check "$work/$image"
+done
+timed 'fsck.minix files' fsck.minix -f "$work/files.minix"
+timed 'e2fsck files' e2fsck -fn "$work/files.ext2"
