@@ -1,4 +1,5 @@
 mod AddressSteps
+mod BlockBytes
 mod BooleanTests
 mod CacheSteps
 mod ChainMet
@@ -27,16 +28,20 @@ mod LoadedTree
 mod LoadsLeft
 mod MadeImages
 mod MadeRows
+mod MakingSteps
+mod MkfsRows
+mod MkfsSteps
 mod NestedImages
-pub mod SizeFlaws
 mod OwnedBlocks
 mod OwnedLines
 mod PageFinds
 mod PageOrder
+mod PutSteps
 mod ReachedBlocks
 mod ReadyDirectories
 mod SeenSteps
 mod SizedImages
+pub mod SizeFlaws
 mod SmallImages
 mod SoundParts
 mod StandingSteps

@@ -14,14 +14,14 @@ use Rattle.sv_check.proofs.MadeImages.{filled_to, four, superblock, inode, direc
 
 -- the image of 64 blocks and 32 inodes that has nothing but a root: its list of free blocks is 14 down to 5, and then that
 -- of block 14; the inode cache is 32 down to 3
-abbrev head_a : List ℕ
+abbrev pub head_a : List ℕ
 head_a = superblock 4 64 10 (map (λ k. 14 - k) (range_with_len 0 10)) 30 (map (λ k. 32 - k) (range_with_len 0 30))
 
 -- a link block whose list begins with this link, and goes on with 63 down to 15
-abbrev list_from : ℕ → List ℕ
+abbrev pub list_from : ℕ → List ℕ
 list_from link = block ((50 ∷ 0 ∷ 0 ∷ 0 ∷ []) ++ four link ++ flat_map (λ k. four (63 - k)) (range_with_len 0 49))
 
-abbrev image_of : (head inodes last_list : List ℕ) → List ℕ
+abbrev pub image_of : (head inodes last_list : List ℕ) → List ℕ
 image_of head inodes last_list =
     front_blocks head ++ filled_to 2048 inodes ++ block (entry 2 (46 ∷ []) ++ entry 2 (46 ∷ 46 ∷ [])) ++ replicate 9216 0 ++ last_list ++ replicate 50176 0
 

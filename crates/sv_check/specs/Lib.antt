@@ -11,6 +11,8 @@ pub mod InodeCache
 pub mod InodeList
 pub mod Links
 pub mod Loaded
+pub mod MadeBlocks
+pub mod Mkfs
 pub mod Pages
 pub mod PastSize
 pub mod Progress

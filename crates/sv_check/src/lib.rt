@@ -5,6 +5,7 @@
 //! - `read_block` and `read_inode` read one block, and one inode, of an image whose sizes are known.
 //! - `file_size` and `read_pages` find one file of a sound image, and `free_count` and `used_count` count.
 //! - `load` reads the tree of a sound image into a file system of `sv_plain`.
+//! - `mkfs` makes an image anew, with a root and nothing in it, or says in `MakeFault` why not.
 //! - `CheckFault` is a refusal with its number and place, a failure of the disk, or want of memory.
 //! - All passes of the check stand inside the crate.
 #![tactic(auto)]
@@ -23,6 +24,9 @@ mod inodes;
 mod line_owners;
 mod links;
 mod loading;
+mod made_blocks;
+mod made_lists;
+mod making;
 mod met;
 mod pages;
 mod sizes;
@@ -36,11 +40,14 @@ pub use counts::{free_count, used_count};
 pub use fault::CheckFault;
 pub use file::{file_size, read_pages};
 pub use loading::{LoadFault, load};
+pub use making::{MakeFault, mkfs};
 pub use pages::{PageBlock, next_block};
 pub use sizes::read_sizes;
 pub use sv_form::{LineRange, Mounted, Owners};
 
 #[cfg(test)]
 mod load_tests;
+#[cfg(test)]
+mod making_tests;
 #[cfg(test)]
 mod tests;

@@ -286,7 +286,7 @@ fn reads_and_faults(rt: HostRuntime) -> Result<(), Failure> {
 
 // An image of 64 blocks and 32 inodes that has a root in block 4 and nothing else. Its list of free blocks is 14 down to
 // 5, and then that of block 14; its inode cache is 32 down to 3.
-fn made_image(alloc: Global) -> Result<Vec<u8>, AllocError> {
+pub fn made_image(alloc: Global) -> Result<Vec<u8>, AllocError> {
     let mut image = vec![in alloc; 0; 65_536]?;
     put(&mut image, 512, b"SV5F\x02\0\x04\0\x40\0\0\0\x0a\0\x1e\0");
     for k in 0..10 {

@@ -1,0 +1,64 @@
+// An image made anew.
+ghost use Rattle.std.specs.Prelude.{◌≡◌, ◌≤◌, ◌*◌, ◌↔◌, length, IfErr, OnOk, IsErrOf};
+ghost use Rattle.sv_dev.specs.Causes.{HasCause, Rose, counted};
+ghost use Rattle.sv_form.specs.Geometry.{IsGeometry};
+ghost use Rattle.sv_check.specs.MadeBlocks.{FitsOn, SaysWhy, made_blocks, made_image};
+ghost use Rattle.sv_check.specs.declared.making.MakeFault.TheVariants.{Limits};
+
+use crate::made_blocks::made_block;
+use crate::made_lists::made_geometry;
+use sv_dev::{Disk, Failed};
+use sv_form::Geometry;
+
+/// Why no image was made.
+#[derive(Clone, Copy, Debug, PartialEq, Eq)]
+pub enum MakeFault {
+    /// No image has so many blocks and inodes, or the disk has another length.
+    Limits,
+    /// The disk failed.
+    Fault,
+    /// Never answered: no memory is taken.
+    NoMemory,
+}
+
+/// Makes an image of so many blocks for so many inodes: a root with nothing in it, and all other data blocks free. Each
+/// block is written once. After a fault the disk has any bytes; where the numbers are refused it is not asked.
+pub fn mkfs<D: Disk>(disk: &mut D, blocks: u32, inodes: u32) -> Result<(), MakeFault>
+    ensures made { OnOk result (D.content disk.new ≡ made_image blocks inodes) }
+    ensures fits { OnOk result (FitsOn (D.content disk.old) blocks inodes) }
+    ensures limits { IsErrOf result Limits ↔ (FitsOn (D.content disk.old) blocks inodes → ⊥) }
+    ensures err { IfErr result (SaysWhy (FitsOn (D.content disk.old) blocks inodes → ⊥) (Rose (D.faults disk.old) (D.faults disk.new))) }
+    ensures refused { IsErrOf result Limits → disk.new ≡ disk.old }
+    ensures length { length (D.content disk.new) ≡ length (D.content disk.old) }
+    ensures writes { OnOk result (D.writes disk.new ≡ counted (D.writes disk.old) blocks) }
+    ensures reads { D.reads disk.new ≡ D.reads disk.old }
+    ensures faults { D.faults disk.old ≤ D.faults disk.new }
+{
+    let Some(sizes) = made_geometry(blocks, inodes) else {
+        return Err(MakeFault::Limits);
+    };
+    if disk.length() != u64::from(blocks) * 1024 {
+        return Err(MakeFault::Limits);
+    }
+    let Ok(()) = write_blocks(disk, &sizes) else {
+        return Err(MakeFault::Fault);
+    };
+    Ok(())
+}
+
+// Writes each block of the image.
+fn write_blocks<D: Disk>(disk: &mut D, sizes: &Geometry) -> Result<(), Failed>
+    requires sizes { IsGeometry sizes.now }
+    requires length { length (D.content disk.old) ≡ sizes.now.blocks * 1024 }
+    ensures made { OnOk result (D.content disk.new ≡ made_blocks sizes.now sizes.now.blocks) }
+    ensures length { length (D.content disk.new) ≡ length (D.content disk.old) }
+    ensures writes { OnOk result (D.writes disk.new ≡ counted (D.writes disk.old) sizes.now.blocks) }
+    ensures reads { D.reads disk.new ≡ D.reads disk.old }
+    ensures cause { HasCause (D.faults disk.old) (D.faults disk.new) result }
+{
+    for number in 0..sizes.blocks {
+        let block = made_block(sizes, number);
+        disk.write(u64::from(number) * 1024, block.as_slice())?;
+    }
+    Ok(())
+}

@@ -1,0 +1,167 @@
+// Worked rows: images made anew.
+ghost use Rattle.std.specs.Prelude.{◌≤◌, ℕ, List};
+ghost use Rattle.sv_check.specs.Sound.{IsMountedFrom};
+
+use crate::tests::made_image;
+use crate::{MakeFault, check, free_count, mkfs, used_count};
+use std::alloc::{AllocError, Global};
+use std::process::Abort;
+use std::test::Fail as Failure;
+use sv_dev::{Access, Disk, Fail, MemDisk};
+use sv_form::Mounted;
+
+// A disk of so many blocks, in which all bits are set.
+fn set_disk(alloc: Global, blocks: usize) -> Result<MemDisk, AllocError>
+    requires { blocks ≤ 65537 }
+{
+    let content = vec![in alloc; 0xff; blocks * 1_024]?;
+    Ok(MemDisk::new(content, Vec::new(alloc)))
+}
+
+// Whether these bytes stand in that block of the disk, from that place on.
+fn shows(disk: &mut MemDisk, number: u16, at: usize, bytes: &[u8]) -> bool
+    requires { at ≤ 1024 }
+{
+    let start = u64::from(number) * 1_024;
+    let mut block = [0; 1_024];
+    if disk.length() < start + 1_024 {
+        return false;
+    }
+    let Ok(()) = disk.read(start, &mut block) else {
+        return false;
+    };
+    block[at..].starts_with(bytes)
+}
+
+// The vectors of an image of 64 blocks and 32 inodes.
+#[test]
+fn vectors(rt: HostRuntime) -> Result<(), Failure> {
+    let alloc = rt.alloc();
+    let mut disk = set_disk(alloc, 64)?;
+    assert!(rt; mkfs(&mut disk, 64, 32).is_ok());
+    let head = b"\x53\x56\x35\x46\x02\x00\x04\x00\x40\x00\x00\x00\x0a\x00\x1e\x00\x0e\x00\x00\x00";
+    assert!(rt; shows(&mut disk, 0, 512, head));
+    let root = b"\xed\x41\x02\x00\x00\x00\x00\x00\x20\x00\x00\x00\x04\x00\x00";
+    assert!(rt; shows(&mut disk, 2, 64, root));
+    let list = b"\x32\x00\x00\x00\x00\x00\x00\x00\x3f\x00\x00\x00\x3e\x00\x00\x00";
+    assert!(rt; shows(&mut disk, 14, 0, list));
+    Ok(())
+}
+
+// Whether each block of the disk is that of the image.
+fn is_image(disk: &mut MemDisk, image: &[u8]) -> bool {
+    if disk.length() != image.len() as u64 {
+        return false;
+    }
+    for (number, block) in image.chunks_exact(1_024).enumerate() {
+        if number >= 65_536 {
+            return false;
+        }
+        if !shows(disk, number as u16, 0, block) {
+            return false;
+        }
+    }
+    true
+}
+
+// All 64 blocks are those of the image that was put together by hand.
+#[test]
+fn whole_image(rt: HostRuntime) -> Result<(), Failure> {
+    let alloc = rt.alloc();
+    let mut disk = set_disk(alloc, 64)?;
+    assert!(rt; mkfs(&mut disk, 64, 32).is_ok());
+    let image = made_image(alloc)?;
+    assert!(rt; is_image(&mut disk, &image));
+    Ok(())
+}
+
+// The blocks, free blocks, inodes and used inodes of the image that was made on a disk of so many blocks.
+fn counts(alloc: Global, blocks: u16, inodes: u32) -> Result<(u32, u32, u32, u32), Failure> {
+    let mut disk = set_disk(alloc, usize::from(blocks))?;
+    make_and_count(alloc, &mut disk, u32::from(blocks), inodes)
+}
+
+fn make_and_count(
+    alloc: Global,
+    disk: &mut MemDisk,
+    blocks: u32,
+    inodes: u32,
+) -> Result<(u32, u32, u32, u32), Failure> {
+    match mkfs(disk, blocks, inodes) {
+        Ok(()) => count(alloc, disk),
+        Err(_) => Err("not made")?,
+    }
+}
+
+fn count(alloc: Global, disk: &mut MemDisk) -> Result<(u32, u32, u32, u32), Failure> {
+    match check(alloc, disk) {
+        Ok(mounted) => Ok(counts_of(&mounted)),
+        Err(_) => Err("unsound")?,
+    }
+}
+
+fn counts_of(mounted: &Mounted) -> (u32, u32, u32, u32)
+    requires { (image : List ℕ) × IsMountedFrom image mounted.now }
+{
+    (
+        mounted.geometry.blocks,
+        free_count(mounted),
+        mounted.geometry.inode_count(),
+        used_count(mounted),
+    )
+}
+
+// Whether the numbers are refused on a disk of so many blocks.
+fn is_refused(alloc: Global, on: usize, blocks: u32, inodes: u32) -> Result<bool, AllocError>
+    requires { on ≤ 65537 }
+{
+    let mut disk = set_disk(alloc, on)?;
+    Ok(mkfs(&mut disk, blocks, inodes) == Err(MakeFault::Limits))
+}
+
+// The check finds each image that is made sound, also where chains are long and where no block is free.
+#[test]
+fn sound_images(rt: HostRuntime) -> Result<(), Failure> {
+    let alloc = rt.alloc();
+    assert_eq!(rt; counts(alloc, 64, 32)?, (64, 59, 32, 1));
+    assert_eq!(rt; counts(alloc, 4, 2)?, (4, 0, 16, 1));
+    assert_eq!(rt; counts(alloc, 8, 80)?, (8, 0, 80, 1));
+    assert_eq!(rt; counts(alloc, 8, 16)?, (8, 4, 16, 1));
+    assert_eq!(rt; counts(alloc, 55, 32)?, (55, 50, 32, 1));
+    assert_eq!(rt; counts(alloc, 256, 200)?, (256, 240, 208, 1));
+    Ok(())
+}
+
+// Too few blocks and too many, a first data block that is none of the image, too few inodes, and a disk of another length.
+#[test]
+fn limits(rt: HostRuntime) -> Result<(), Failure> {
+    let alloc = rt.alloc();
+    assert!(rt; is_refused(alloc, 3, 3, 2)?);
+    assert!(rt; is_refused(alloc, 65_537, 65_537, 2)?);
+    assert!(rt; is_refused(alloc, 8, 8, 81)?);
+    assert!(rt; is_refused(alloc, 8, 8, 1)?);
+    assert!(rt; is_refused(alloc, 5, 4, 2)?);
+    Ok(())
+}
+
+// Each block is written once, and no block is read. Each of the writes may fail.
+#[test]
+fn writes_and_faults(rt: HostRuntime) -> Result<(), Failure> {
+    let alloc = rt.alloc();
+    let log = [
+        Access::Write(0),
+        Access::Write(1_024),
+        Access::Write(2_048),
+        Access::Write(3_072),
+    ];
+    let mut disk = set_disk(alloc, 4)?;
+    assert!(rt; mkfs(&mut disk, 4, 2).is_ok());
+    assert!(rt; disk.log() == log.as_slice());
+    for k in 1..=4 {
+        let content = vec![in alloc; 0xff; 4_096]?;
+        let fails = vec![in alloc; Fail::Write(k)]?;
+        let mut disk = MemDisk::new(content, fails);
+        assert!(rt; mkfs(&mut disk, 4, 2) == Err(MakeFault::Fault));
+    }
+    Ok(())
+}
