@@ -1,4 +1,8 @@
+mod ElevenPages
+mod Emptied
+mod FourPages
+mod GivenBack
+mod Nodes
 mod PageParts
 mod PagesHeld
-mod Nodes
-mod FourPages
+mod TreeBlocks

@@ -3,11 +3,15 @@
 //! - `LockedInode` is an inode's number and body, with the stake that holds its lines. With these lines it stands for a
 //!   node: a kind, mode bits, links, a size and pages.
 //! - `readi` gives bytes of the node; it reads each page once and asks for the next one that is present ahead.
+//! - `truncate` makes the file empty, and gives its blocks back.
 #![tactic(auto)]
 
+mod cuts;
 mod locked;
 mod range;
 #[cfg(test)]
 mod tests;
+#[cfg(test)]
+mod truncate_tests;
 
 pub use locked::LockedInode;

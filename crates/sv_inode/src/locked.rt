@@ -1,18 +1,25 @@
 // A locked inode.
-ghost use Rattle.std.specs.Prelude.{◌≡◌, ◌≤◌, ◌-◌, ℕ, IfOk, min};
+ghost use Rattle.std.specs.Prelude.{◌≡◌, ◌≤◌, ◌+◌, ◌-◌, ℕ, IfOk, OnErr, OnOk, length, max, min, replicate};
+ghost use Rattle.sv_dev.specs.Causes.{counted};
 ghost use Rattle.sv_form.specs.Node.{Node, bytes_of};
 ghost use Rattle.sv_form.specs.PagePath.{greatest_size};
-ghost use Rattle.sv_store.specs.Held.{nothing_lent};
+ghost use Rattle.sv_store.specs.Held.{Apart, Both, SameLines, nothing_lent};
+ghost use Rattle.sv_super.specs.Count.{times};
 ghost use Rattle.sv_bmap.specs.Causes.{HasReason};
+ghost use Rattle.sv_bmap.specs.Order.{blocks_of};
 ghost use Rattle.sv_bmap.specs.Tree.{IsTree};
 ghost use Rattle.sv_inode.specs.Contents.{file_bytes};
-ghost use Rattle.sv_inode.specs.StandsFor.{StandsFor};
+ghost use Rattle.sv_inode.specs.StandsFor.{HasDataBlocks, StandsFor};
+ghost use Rattle.sv_inode.specs.Truncate.{FreesAll, HoldsInode, emptied, less_all, only};
 
+use crate::cuts::{cut_all, free_all};
 use crate::range::read_range;
 use std::alloc::Global;
 use std::sync::Wait;
+use sv_bmap::collect;
 use sv_form::{Bytes, InodeBody};
 use sv_store::{Refusal, Stake};
+use sv_super::SuperCore;
 
 /// An inode that nobody else may use now (Bach, chapter 4.2), with the stake that holds its line and its blocks. The
 /// bytes of its line need not be the body's.
@@ -49,5 +56,59 @@ impl<S: Stake> LockedInode<S> {
         let _sizes = self.stake.geometry();
         let count = count.min(self.body.size.saturating_sub(at));
         read_range(rt, alloc, &self.body.addresses, &mut self.stake, at, count)
+    }
+
+    /// Makes the file empty, with no page (Bach, chapter 4.3): all its blocks become free, pages and indirect blocks. All
+    /// are cut off before the first is given back, so that a refusal, a fault that the stake has counted or want of
+    /// memory, changes nothing of the file and of what is free.
+    pub fn truncate<R: Wait>(
+        &mut self,
+        rt: &R,
+        alloc: Global,
+        core: &mut SuperCore<S>,
+    ) -> Result<(), Refusal>
+        requires inode { HoldsInode (S.origin self.old.stake) (S.held self.old.stake) self.old.number }
+        requires tree { IsTree (S.origin self.old.stake) (S.held self.old.stake) self.old.body.addresses }
+        requires data_blocks { HasDataBlocks (S.origin self.old.stake).sizes (S.held self.old.stake) self.old.body.addresses }
+        requires apart { Apart (S.held core.old.stake) (S.held self.old.stake) }
+        requires lent { S.lent self.old.stake ≡ nothing_lent }
+        requires origin { S.origin core.old.stake ≡ S.origin self.old.stake }
+        ensures node { (node : Node) → StandsFor (S.origin self.old.stake) (S.held self.old.stake) self.old.body node
+            → OnOk result (StandsFor (S.origin self.new.stake) (S.held self.new.stake) self.new.body (emptied node)) }
+        ensures body { OnOk result (self.new.body ≡ record self.old.body { size = 0; addresses = replicate 13 0 }) }
+        ensures held { OnOk result (S.held self.new.stake ≡ less_all (blocks_of (S.origin self.old.stake).sizes (S.held self.old.stake) self.old.body.addresses) (S.held self.old.stake)) }
+        ensures freed { OnOk result (FreesAll (S.faults core.old.stake) (S.faults core.new.stake) core.old core.new (blocks_of (S.origin self.old.stake).sizes (S.held self.old.stake) self.old.body.addresses)) }
+        ensures lines { OnOk result (SameLines (S.held core.new.stake) (Both (S.held core.old.stake) (only (blocks_of (S.origin self.old.stake).sizes (S.held self.old.stake) self.old.body.addresses) (S.held self.old.stake)))) }
+        ensures others { OnOk result ((c l : ℕ) → times c (blocks_of (S.origin self.old.stake).sizes (S.held self.old.stake) self.old.body.addresses) ≡ 0 → S.held core.new.stake c l ≡ S.held core.old.stake c l) }
+        ensures spare { OnOk result (core.new.spare + length (blocks_of (S.origin self.old.stake).sizes (S.held self.old.stake) self.old.body.addresses) ≡ max core.old.spare (length (blocks_of (S.origin self.old.stake).sizes (S.held self.old.stake) self.old.body.addresses))) }
+        ensures inode { HoldsInode (S.origin self.new.stake) (S.held self.new.stake) self.new.number }
+        ensures apart { Apart (S.held core.new.stake) (S.held self.new.stake) }
+        ensures body_kept { OnErr result (self.new.body ≡ self.old.body) }
+        ensures held_kept { OnErr result (S.held self.new.stake ≡ S.held self.old.stake) }
+        ensures core_kept { OnErr result (core.new.stake ≡ core.old.stake) }
+        ensures chain_kept { OnErr result (core.new.chain ≡ core.old.chain) }
+        ensures aside_kept { OnErr result (core.new.aside ≡ core.old.aside) }
+        ensures spare_kept { OnErr result (core.old.spare ≤ core.new.spare) }
+        ensures number { self.new.number ≡ self.old.number }
+        ensures inodes { core.new.inodes ≡ core.old.inodes }
+        ensures head { core.new.head ≡ core.old.head }
+        ensures lends { S.lent self.new.stake ≡ nothing_lent }
+        ensures core_lends { S.lent core.new.stake ≡ nothing_lent }
+        ensures forced { S.forced self.new.stake ≡ S.forced self.old.stake }
+        ensures core_forced { S.forced core.new.stake ≡ S.forced core.old.stake }
+        ensures origin { S.origin self.new.stake ≡ S.origin self.old.stake }
+        ensures core_origin { S.origin core.new.stake ≡ S.origin core.old.stake }
+        ensures cause { HasReason (S.faults self.old.stake) (S.faults self.new.stake) result }
+        ensures core_faults { counted (S.faults core.old.stake) 0 ≤ S.faults core.new.stake }
+    {
+        let _disk = self.stake.geometry();
+        let _left = core.left();
+        let blocks = collect(rt, alloc, &self.body.addresses, &mut self.stake)?;
+        core.room(blocks.len() as u32)?;
+        let cuts = cut_all(alloc, &mut self.stake, blocks.as_slice())?;
+        self.body.size = 0;
+        self.body.addresses = [0; 13];
+        free_all(rt, core, cuts);
+        Ok(())
     }
 }

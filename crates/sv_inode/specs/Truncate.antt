@@ -1,0 +1,74 @@
+-- A file is cut to nothing: its blocks are cut off its stake, and become free.
+use Rattle.std.specs.Prelude.{◌≡◌, ◌≤◌, ◌<◌, ◌+◌, ◌++◌, ◌⊎◌, ℕ, Bool, false, List, length, map, None, IsSome, nat_lt, if◌then◌else◌}
+use Rattle.std.specs.List.{All}
+use Rattle.std.specs.FinMap as fmap
+use Rattle.sv_dev.specs.Causes.{last_count}
+use Rattle.sv_form.specs.Geometry.{IsDataBlock, IsNumber, inode_place}
+use Rattle.sv_form.specs.Node.{Node}
+use Rattle.sv_store.specs.Held.{Apart, Held, Lent, Origin, HoldsBlock, nothing_lent}
+use Rattle.sv_super.specs.Core.{Core, alone}
+use Rattle.sv_super.specs.Count.{times}
+
+-- the node without bytes and pages
+abbrev pub emptied : Node → Node
+emptied node = record node { size = 0; pages = fmap.empty }
+
+-- the lines of these blocks alone, and those of all others
+unfoldable pub only : List ℕ → Held → Held
+only blocks h = λ c l. if nat_lt 0 (times c blocks) then h c l else None
+
+unfoldable pub less_all : List ℕ → Held → Held
+less_all blocks h = λ c l. if nat_lt 0 (times c blocks) then None else h c l
+
+-- the inode has a number, and its line is held
+pub record HoldsInode (o : Origin) (h : Held) (n : ℕ) : Type 0 where
+  pub number : IsNumber o.sizes n
+  pub line : IsSome (h (inode_place o.sizes n).block (inode_place o.sizes n).line)
+
+-- a line is held that is in no data block
+pub record HoldsOther (o : Origin) (h : Held) : Type 0 where
+  pub block : ℕ
+  pub line : ℕ
+  pub some : IsSome (h block line)
+  pub before : block < o.sizes.first_data
+
+-- these are data blocks whose lines are held, each named once
+pub record AreBlocks (o : Origin) (h : Held) (blocks : List ℕ) : Type 0 where
+  pub once : (b : ℕ) → times b blocks ≤ 1
+  pub in_data : (b : ℕ) → 0 < times b blocks → IsDataBlock o.sizes b
+  pub whole : (b : ℕ) → 0 < times b blocks → HoldsBlock o h b
+
+-- a block, and a new stake that has its lines
+pub record IsCut {S : Type 0} (held : S → Held) (lent : S → Lent) (origin : S → Origin) (forced : S → Bool) (faults : S → ℕ) (o : Origin) (h : Held) (cut : ℕ × S) : Type 0 where
+  pub lines : held cut.1 ≡ alone cut.0 h
+  pub away : lent cut.1 ≡ nothing_lent
+  pub home : origin cut.1 ≡ o
+  pub unforced : forced cut.1 ≡ false
+  pub none : faults cut.1 ≡ 0
+
+-- the blocks that were cut off
+abbrev pub names_of : {S : Type 0} → List (ℕ × S) → List ℕ
+names_of cuts = map (λ cut. cut.0) cuts
+
+-- of the lines that were held, those of the blocks that were cut off are gone
+pub record IsCutFrom {S : Type 0} (held : S → Held) (lent : S → Lent) (origin : S → Origin) (forced : S → Bool) (faults : S → ℕ) (o : Origin) (h now : Held) (cuts : List (ℕ × S)) : Type 0 where
+  pub left : now ≡ less_all (names_of cuts) h
+  pub each : All (IsCut held lent origin forced faults o h) cuts
+  pub once : (b : ℕ) → times b (names_of cuts) ≤ 1
+
+-- the blocks that were cut off can be freed where none of their lines is held by the core
+pub record CanFreeAll {S : Type 0} (held : S → Held) (lent : S → Lent) (origin : S → Origin) (forced : S → Bool) (faults : S → ℕ) (o : Origin) (h mine : Held) (cuts : List (ℕ × S)) : Type 0 where
+  pub are : AreBlocks o h (names_of cuts)
+  pub each : All (IsCut held lent origin forced faults o h) cuts
+  pub apart : Apart mine (only (names_of cuts) h)
+
+-- Blocks are freed one after another: each becomes the first of the chain, or is set aside, which happens only where the
+-- count of faults rose.
+pub record FreesAll {S : Type 0} (before now : ℕ) (old new : Core S) (blocks : List ℕ) : Type 0 where
+  pub chained : List ℕ
+  pub kept : List ℕ
+  pub chain : new.chain ≡ chained ++ old.chain
+  pub aside : new.aside ≡ old.aside ++ kept
+  pub each : (b : ℕ) → times b chained + times b kept ≡ times b blocks
+  pub count : length chained + length kept ≡ length blocks
+  pub rose : 0 < length kept → (before < now) ⊎ (last_count ≤ now)
