@@ -31,6 +31,12 @@ row 0 'ok blocks 5 free 0 inodes 16 used 2' '' check "$work/image"
 row 2 '' 'svfs: image refused: 1 Magic 0' check "$work/short"
 row 5 '' 'svfs: file fault' check "$work/none"
 row 1 '' 'svfs: words not understood' check
+printf 'svj 1 1 100\n1 drop 2 = kept\n1 drop 2 = kept\n0 purge = done\n' >"$work/journal"
+printf 'svj 1 1 100\n1 drop 2 = kept\n1 drop 2 = freed\n0 purge = done\n' >"$work/illegal"
+row 0 $'inode 2 d 755 links 2 size 48 pages 1\ninode 3 f 644 links 1 size 6 pages 1' '' replay "$work/image" "$work/journal"
+row 8 '' 'svfs: journal line 3 refused' replay "$work/image" "$work/illegal"
+row 8 '' 'svfs: journal line 1 refused' replay "$work/image" /dev/null
+row 5 '' 'svfs: file fault' replay "$work/image" "$work/none"
 
 "$program" cat "$work/image" 3 >/dev/full 2>"$work/note"
 if [ $? != 6 ] || [ "$(cat "$work/note")" != 'svfs: write fault' ]; then

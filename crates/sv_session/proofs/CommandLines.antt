@@ -1,7 +1,6 @@
 -- The command lines of two and of three words.
 use Rattle.std.proofs.Common.{◌≡◌, ◌<◌, ◌≤◌, ℕ, List, [], ◌∷◌, length, get_or, map, false, not, arith, sym, ◌∙◌, ap, String, string_bytes, Global, codes, decimal}
 use Rattle.std.specs.Str.{bytes_eq}
-use Rattle.sv_session.specs.Command.{Asks, Command, cat, check}
 use Rattle.std.proofs.lemmas.Bool.{not-false}
 use Rattle.std.proofs.lemmas.Slice.Eq.{bytes_eq-Decides}
 
@@ -49,8 +48,13 @@ check_words words a b least most first second command image is_command is_check 
     ap (map string_bytes) (two words a b least most first second) ∙ ap (λ (w : List ℕ). w ∷ string_bytes b ∷ []) (sym is_command ∙ same)
     ∙ ap (λ (w : List ℕ). codes "check" ∷ w ∷ []) (sym is_image)
 
--- the words ask for nothing
-pub no_command : (words : List (List ℕ)) → ((image : List ℕ) → Asks words (check image) → ⊥) → ((image : List ℕ) (inode : ℕ) → Asks words (cat image inode) → ⊥)
-    → (command : Command) → Asks words command → ⊥
-no_command words no_check no_cat (cat image inode) asks = no_cat image inode asks
-no_command words no_check no_cat (check image) asks = no_check image asks
+-- the words are a `replay` of that image and journal
+pub replay_words : (words : List (String Global)) (a b c : String Global) → 3 ≤ length words → length words < 4 → a ≡ get_or words 0 a → b ≡ get_or words 1 b → c ≡ get_or words 2 c
+    → (command image journal : List ℕ) → command ≡ string_bytes a → false ≡ not (bytes_eq command (codes "replay")) → image ≡ string_bytes b
+    → journal ≡ string_bytes c → map string_bytes words ≡ codes "replay" ∷ image ∷ journal ∷ []
+replay_words words a b c least most first second third command image journal is_command is_replay is_image is_journal =
+    let same : command ≡ codes "replay" = same_text command (codes "replay") is_replay in
+    let texts : map string_bytes words ≡ string_bytes a ∷ string_bytes b ∷ string_bytes c ∷ [] = three_words words a b c least most first second third in
+    texts ∙ ap (λ (w : List ℕ). w ∷ string_bytes b ∷ string_bytes c ∷ []) (sym is_command ∙ same)
+    ∙ ap (λ (w : List ℕ). codes "replay" ∷ w ∷ string_bytes c ∷ []) (sym is_image)
+    ∙ ap (λ (w : List ℕ). codes "replay" ∷ image ∷ w ∷ []) (sym is_journal)

@@ -1,19 +1,18 @@
 -- What is known of a file that was found, and of what was written of it.
-use Rattle.std.proofs.Common.{◌≡◌, ℕ, List, Option, Some, None, Result, Ok, Err, IfErr, OnErr, OnOk, IsSomeAnd, ap, inr, subst, sym, ◌∙◌, refl, false}
+use Rattle.std.proofs.Common.{◌≡◌, ℕ, List, Option, Some, None, Result, Ok, Err, IfErr, OnErr, IsSomeAnd, ap, inr, subst, sym, ◌∙◌}
 use Rattle.sv_dev.specs.Told.{grown, AppendsFront}
 use Rattle.sv_form.specs.declared.geometry.Geometry.{Geometry}
 use Rattle.sv_form.specs.Geometry.{IsNumber}
-use Rattle.sv_form.specs.Image.{geometry_of, inode_of}
+use Rattle.sv_form.specs.Image.{geometry_of}
 use Rattle.sv_form.specs.Node.{Node}
-use Rattle.sv_plain.specs.Front.{file_bytes, size_of}
+use Rattle.sv_plain.specs.Front.{file_bytes}
 use Rattle.sv_check.specs.declared.pages.PageBlock.{PageBlock}
 use Rattle.sv_check.specs.FilePages.{IsFileSize, block_at, file_of, file_pages, text_of}
-use Rattle.sv_check.specs.InodeList.{is_directory, is_free}
 use Rattle.sv_check.specs.Sound.{IsSound}
 use Rattle.sv_check.proofs.FileTexts.{file_text}
 use Rattle.sv_session.specs.declared.stop.Stop.{Stop}
-use Rattle.sv_session.specs.declared.stop.Stop.TheVariants.{Words, Refused, DeviceFault, FileFault, WriteFault, NoMemory, NoSuchFile}
-use Rattle.sv_session.specs.Answer.{HasFile, LeavesSink, Shows, ShowsFront}
+use Rattle.sv_session.specs.declared.stop.Stop.TheVariants.{Words, Refused, DeviceFault, FileFault, WriteFault, NoMemory, JournalRefused, NoSuchFile}
+use Rattle.sv_session.specs.Answer.{LeavesSink, Shows, ShowsFront}
 use Rattle.sv_session.specs.Transfer.{Transfers}
 
 some_more : (o : Option Node) (P Q : Node → Type 0) → ((node : Node) → P node → Q node) → IsSomeAnd o P → IsSomeAnd o Q
@@ -60,3 +59,4 @@ leaves_front image n old new device write (Err (Refused number place)) reason fr
 leaves_front image n old new device write (Err FileFault) reason front = absurd reason
 leaves_front image n old new device write (Err NoMemory) reason front = absurd reason
 leaves_front image n old new device write (Err NoSuchFile) reason front = absurd reason
+leaves_front image n old new device write (Err (JournalRefused line)) reason front = absurd reason

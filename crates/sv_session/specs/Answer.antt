@@ -5,8 +5,9 @@ use Rattle.sv_form.specs.Node.{Node}
 use Rattle.sv_check.specs.FilePages.{file_of, text_of}
 use Rattle.sv_check.specs.Sound.{Flaw, IsSound}
 use Rattle.sv_session.specs.declared.stop.Stop.{Stop}
-use Rattle.sv_session.specs.declared.stop.Stop.TheVariants.{Words, Refused, DeviceFault, FileFault, WriteFault, NoMemory, NoSuchFile}
-use Rattle.sv_session.specs.Command.{Command, cat, check}
+use Rattle.sv_session.specs.declared.stop.Stop.TheVariants.{Words, Refused, DeviceFault, FileFault, WriteFault, NoMemory, JournalRefused, NoSuchFile}
+use Rattle.sv_session.specs.Command.{Command, cat, check, replay}
+use Rattle.sv_session.specs.Replay.{LeavesListing, Lists, RefusesLine, StopsReplay}
 use Rattle.sv_session.specs.SoundLine.{sound_line}
 use Rattle.sv_session.specs.Stop.{status_of, line_of}
 
@@ -22,6 +23,7 @@ HasReason on missing device file write DeviceFault = device
 HasReason on missing device file write FileFault = file
 HasReason on missing device file write WriteFault = write
 HasReason on missing device file write NoMemory = Unit {0}
+HasReason on missing device file write (JournalRefused line) = ⊥
 HasReason on missing device file write NoSuchFile = missing
 
 -- ---- `cat` of file n
@@ -48,6 +50,7 @@ pub record LacksFile (n : ℕ) (image : List ℕ) : Type 0 where
 abbrev pub LeavesSink : ((List ℕ → Type 0) → Type 0) → ℕ → Option (List ℕ) → Option (List ℕ) → Stop → Type 0
 LeavesSink on n old new Words = new ≡ old
 LeavesSink on n old new (Refused number place) = new ≡ old
+LeavesSink on n old new (JournalRefused line) = new ≡ old
 LeavesSink on n old new NoSuchFile = new ≡ old
 LeavesSink on n old new DeviceFault = (new ≡ old) ⊎ on (ShowsFront n old new)
 LeavesSink on n old new FileFault = new ≡ old
@@ -78,6 +81,7 @@ pub record IsCalledSoundInPart (old new : Option (List ℕ)) (image : List ℕ) 
 abbrev pub LeavesLine : ((List ℕ → Type 0) → Type 0) → Option (List ℕ) → Option (List ℕ) → Stop → Type 0
 LeavesLine on old new Words = new ≡ old
 LeavesLine on old new (Refused number place) = new ≡ old
+LeavesLine on old new (JournalRefused line) = new ≡ old
 LeavesLine on old new NoSuchFile = new ≡ old
 LeavesLine on old new DeviceFault = new ≡ old
 LeavesLine on old new FileFault = new ≡ old
@@ -91,9 +95,21 @@ pub record CheckAnswer (images : Option (List ℕ → Option (List ℕ))) (name 
   pub stopped : status ≢ 0 → (stop : Stop) × (status ≡ status_of stop) × HasReason (OnImage images name) ⊥ device file write stop
       × LeavesLine (OnImage images name) old new stop × noted (line_of stop)
 
+-- ---- `replay`
+
+-- `replay` ended with that status: the listing was appended, or a stop is told, with its reason and its line.
+pub record ReplayAnswer (images texts : Option (List ℕ → Option (List ℕ))) (name journal : List ℕ) (device file source write : Type 0)
+    (old new : Option (List ℕ)) (noted : List ℕ → Type 0) (status : ℕ) : Type 0 where
+  pub done : status ≡ 0 → OnImage images name (Lists texts journal old new)
+  pub stopped : status ≢ 0 → (stop : Stop) × (status ≡ status_of stop)
+      × StopsReplay (λ number place. OnImage images name (λ image. Flaw image number place)) (λ line. OnImage images name (RefusesLine texts journal line))
+      device (file ⊎ source) write stop
+      × LeavesListing (OnImage images name) texts journal old new stop × noted (line_of stop)
+
 -- ---- any command
 
 -- what a command answers
-abbrev pub Answers : Option (List ℕ → Option (List ℕ)) → (device file write : Type 0) → (old new : Option (List ℕ)) → (List ℕ → Type 0) → ℕ → Command → Type 0
-Answers images device file write old new noted status (cat image n) = CatAnswer images image n device file write old new noted status
-Answers images device file write old new noted status (check image) = CheckAnswer images image device file write old new noted status
+abbrev pub Answers : (images texts : Option (List ℕ → Option (List ℕ))) → (device file source write : Type 0) → (old new : Option (List ℕ)) → (List ℕ → Type 0) → ℕ → Command → Type 0
+Answers images texts device file source write old new noted status (cat image n) = CatAnswer images image n device file write old new noted status
+Answers images texts device file source write old new noted status (check image) = CheckAnswer images image device file write old new noted status
+Answers images texts device file source write old new noted status (replay image journal) = ReplayAnswer images texts image journal device file source write old new noted status

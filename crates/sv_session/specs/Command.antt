@@ -7,8 +7,11 @@ pub data Command : Type 0 where
   cat : (image : List ℕ) (inode : ℕ) → Command
   -- write one line on a sound image
   check : (image : List ℕ) → Command
+  -- write the listing that a journal over an image leads to
+  replay : (image journal : List ℕ) → Command
 
 -- The words ask for this. A number is decimal digits, without sign or leading zero, `0` itself aside.
 abbrev pub Asks : List (List ℕ) → Command → Type 0
 Asks words (cat image inode) = (inode < 2 ^ 32) × (words ≡ codes "cat" ∷ image ∷ decimal inode ∷ [])
 Asks words (check image) = words ≡ codes "check" ∷ image ∷ []
+Asks words (replay image journal) = words ≡ codes "replay" ∷ image ∷ journal ∷ []

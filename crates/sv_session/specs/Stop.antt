@@ -6,8 +6,14 @@ use Rattle.sv_dev.specs.declared.fault.HostFault.{HostFault}
 use Rattle.sv_dev.specs.declared.fault.HostFault.TheVariants as host
 use Rattle.sv_check.specs.declared.fault.CheckFault.{CheckFault}
 use Rattle.sv_check.specs.declared.fault.CheckFault.TheVariants as check
+use Rattle.sv_check.specs.declared.loading.LoadFault.{LoadFault}
+use Rattle.sv_check.specs.declared.loading.LoadFault.TheVariants as load
+use Rattle.sv_journal.specs.declared.gathering.GatherFault.{GatherFault}
+use Rattle.sv_journal.specs.declared.gathering.GatherFault.TheVariants as gather
+use Rattle.sv_journal.specs.declared.journal_fault.JournalFault.{JournalFault}
+use Rattle.sv_journal.specs.declared.journal_fault.JournalFault.TheVariants as journal
 use Rattle.sv_session.specs.declared.stop.Stop.{Stop}
-use Rattle.sv_session.specs.declared.stop.Stop.TheVariants.{Words, Refused, DeviceFault, FileFault, WriteFault, NoMemory, NoSuchFile}
+use Rattle.sv_session.specs.declared.stop.Stop.TheVariants.{Words, Refused, DeviceFault, FileFault, WriteFault, NoMemory, JournalRefused, NoSuchFile}
 
 -- the exit status of the program
 abbrev pub status_of : Stop → ℕ
@@ -17,6 +23,7 @@ status_of DeviceFault = 4
 status_of FileFault = 5
 status_of WriteFault = 6
 status_of NoMemory = 7
+status_of (JournalRefused line) = 8
 status_of NoSuchFile = 9
 
 -- the word of a condition of a sound image, by its number
@@ -44,6 +51,10 @@ abbrev pub refusal_of : ℕ → ℕ → List ℕ
 refusal_of number place =
     codes "svfs: image refused: " ++ (decimal number ++ (codes " " ++ (word_of number ++ (codes " " ++ (decimal place ++ codes "\n")))))
 
+-- the line of a journal that is refused at that line
+abbrev pub journal_refusal_of : ℕ → List ℕ
+journal_refusal_of line = codes "svfs: journal line " ++ (decimal line ++ codes " refused\n")
+
 -- the line that is noted
 abbrev pub line_of : Stop → List ℕ
 line_of Words = codes "svfs: words not understood\n"
@@ -52,6 +63,7 @@ line_of DeviceFault = codes "svfs: device fault\n"
 line_of FileFault = codes "svfs: file fault\n"
 line_of WriteFault = codes "svfs: write fault\n"
 line_of NoMemory = codes "svfs: out of memory\n"
+line_of (JournalRefused line) = journal_refusal_of line
 line_of NoSuchFile = codes "svfs: no such file\n"
 
 -- the line went to a sink as a whole, or a front of it did and the sink failed
@@ -59,7 +71,7 @@ abbrev pub Noted : Option (List ℕ) → Option (List ℕ) → ℕ → ℕ → L
 Noted old new faults_before faults line =
     (n : ℕ) × (n ≤ length line) × (new ≡ grown old (take n line)) × ((n ≡ length line) ⊎ Rose faults_before faults)
 
--- the stop that a check's answer, and a host's, leads to
+-- the stop that a check's answer, a host's, and those of a load, a gathering and a reading lead to
 abbrev pub stop_of_check : CheckFault → Stop
 stop_of_check (check.Refused number place) = Refused number place
 stop_of_check check.Fault = DeviceFault
@@ -68,3 +80,15 @@ stop_of_check check.NoMemory = NoMemory
 abbrev pub stop_of_host : HostFault → Stop
 stop_of_host host.Failed = FileFault
 stop_of_host host.NoMemory = NoMemory
+
+abbrev pub stop_of_load : LoadFault → Stop
+stop_of_load load.Fault = DeviceFault
+stop_of_load load.NoMemory = NoMemory
+
+abbrev pub stop_of_gather : GatherFault → Stop
+stop_of_gather gather.Fault = FileFault
+stop_of_gather gather.NoMemory = NoMemory
+
+abbrev pub stop_of_journal : JournalFault → Stop
+stop_of_journal (journal.Line line) = JournalRefused line
+stop_of_journal journal.NoMemory = NoMemory

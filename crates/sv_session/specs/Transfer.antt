@@ -1,6 +1,6 @@
 -- Why a transfer from the disk to a sink ended early.
 use Rattle.sv_session.specs.declared.stop.Stop.{Stop}
-use Rattle.sv_session.specs.declared.stop.Stop.TheVariants.{Words, Refused, DeviceFault, FileFault, WriteFault, NoMemory, NoSuchFile}
+use Rattle.sv_session.specs.declared.stop.Stop.TheVariants.{Words, Refused, DeviceFault, FileFault, WriteFault, NoMemory, JournalRefused, NoSuchFile}
 
 -- the disk failed, or the sink did
 abbrev pub Transfers : (device write : Type 0) → Stop → Type 0
@@ -10,4 +10,5 @@ Transfers device write Words = ⊥
 Transfers device write (Refused number place) = ⊥
 Transfers device write FileFault = ⊥
 Transfers device write NoMemory = ⊥
+Transfers device write (JournalRefused line) = ⊥
 Transfers device write NoSuchFile = ⊥

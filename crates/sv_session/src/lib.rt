@@ -4,15 +4,21 @@
 mod cat;
 mod check;
 mod find;
+mod journal;
 mod pages;
+mod replay;
+#[cfg(test)]
+mod replay_tests;
 mod sound_line;
 mod stop;
 #[cfg(test)]
 mod tests;
 mod top;
+mod tree;
 mod words;
 
 pub use cat::cat_image;
 pub use check::check_image;
+pub use replay::replay_image;
 pub use stop::{Stop, tell};
 pub use top::svfs;

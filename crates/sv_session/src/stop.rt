@@ -1,12 +1,13 @@
 // Why a command ends without having done its work.
 ghost use Rattle.std.specs.Prelude.{◌≡◌, ◌≤◌, [], length};
-ghost use Rattle.sv_session.specs.Stop.{word_of, refusal_of, status_of, line_of, Noted};
+ghost use Rattle.sv_session.specs.Stop.{word_of, refusal_of, journal_refusal_of, status_of, line_of, Noted};
 
 use arrayvec::ArrayString;
 use itoa::Buffer;
 use std::alloc::AllocError;
-use sv_check::CheckFault;
+use sv_check::{CheckFault, LoadFault};
 use sv_dev::{HostFault, Sink};
+use sv_journal::{GatherFault, JournalFault};
 
 // Room for the longest line.
 const LINE_BYTES: usize = 64;
@@ -22,6 +23,8 @@ pub enum Stop {
     FileFault,
     WriteFault,
     NoMemory,
+    /// The journal does not read, or is not legal: the first line where it fails.
+    JournalRefused { line: u32 },
     NoSuchFile,
 }
 
@@ -39,6 +42,7 @@ impl Stop {
             Stop::FileFault => 5,
             Stop::WriteFault => 6,
             Stop::NoMemory => 7,
+            Stop::JournalRefused { .. } => 8,
             Stop::NoSuchFile => 9,
         }
     }
@@ -59,6 +63,7 @@ impl Stop {
             Stop::FileFault => line.push_str("svfs: file fault\n"),
             Stop::WriteFault => line.push_str("svfs: write fault\n"),
             Stop::NoMemory => line.push_str("svfs: out of memory\n"),
+            Stop::JournalRefused { line: at } => push_journal_refusal(&mut line, at),
             Stop::NoSuchFile => line.push_str("svfs: no such file\n"),
         }
         line
@@ -78,6 +83,17 @@ fn push_refusal(line: &mut ArrayString<LINE_BYTES>, number: u8, place: u32)
     line.push_str(" ");
     line.push_str(digits.format(place));
     line.push_str("\n");
+}
+
+// The line of a journal that is refused at that line.
+fn push_journal_refusal(line: &mut ArrayString<LINE_BYTES>, at: u32)
+    requires { line.old.bytes ≡ [] }
+    ensures { line.new.bytes ≡ journal_refusal_of at }
+{
+    let mut digits = Buffer::new();
+    line.push_str("svfs: journal line ");
+    line.push_str(digits.format(at));
+    line.push_str(" refused\n");
 }
 
 // The word of a condition of a sound image.
@@ -142,6 +158,48 @@ impl From<HostFault> for Stop {
         match fault {
             HostFault::Failed => Stop::FileFault,
             HostFault::NoMemory => Stop::NoMemory,
+        }
+    }
+}
+
+impl From<LoadFault> for Stop {
+    ghost use Rattle.std.specs.Prelude.{◌≡◌};
+    ghost use Rattle.sv_session.specs.Stop.{stop_of_load};
+
+    ghost from_gives = { λ fault stop. stop ≡ stop_of_load fault };
+
+    fn from(fault: LoadFault) -> Self {
+        match fault {
+            LoadFault::Fault => Stop::DeviceFault,
+            LoadFault::NoMemory => Stop::NoMemory,
+        }
+    }
+}
+
+impl From<GatherFault> for Stop {
+    ghost use Rattle.std.specs.Prelude.{◌≡◌};
+    ghost use Rattle.sv_session.specs.Stop.{stop_of_gather};
+
+    ghost from_gives = { λ fault stop. stop ≡ stop_of_gather fault };
+
+    fn from(fault: GatherFault) -> Self {
+        match fault {
+            GatherFault::Fault => Stop::FileFault,
+            GatherFault::NoMemory => Stop::NoMemory,
+        }
+    }
+}
+
+impl From<JournalFault> for Stop {
+    ghost use Rattle.std.specs.Prelude.{◌≡◌};
+    ghost use Rattle.sv_session.specs.Stop.{stop_of_journal};
+
+    ghost from_gives = { λ fault stop. stop ≡ stop_of_journal fault };
+
+    fn from(fault: JournalFault) -> Self {
+        match fault {
+            JournalFault::Line(line) => Stop::JournalRefused { line },
+            JournalFault::NoMemory => Stop::NoMemory,
         }
     }
 }

@@ -1,6 +1,8 @@
 // The program over the forms in memory.
 ghost use Rattle.std.specs.Prelude.{◌+◌, ◌<◌, ◌^◌, length};
 
+mod made_images;
+
 use crate::cat::cat_disk;
 use crate::check::check_disk;
 use crate::{Stop, svfs};
@@ -79,7 +81,7 @@ fn changed(alloc: Global, changes: &[Change]) -> Result<Vec<u8>, AllocError> {
 
 // The same, where the place and the bytes are small.
 fn put_short(image: &mut Vec<u8>, at: usize, bytes: &[u8]) {
-    if at <= 5_120 && bytes.len() <= 1_024 {
+    if at <= 65_536 && bytes.len() <= 1_024 {
         put(image, at, bytes);
     }
 }

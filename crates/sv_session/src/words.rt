@@ -1,6 +1,6 @@
 // The words of the command line.
 ghost use Rattle.std.specs.Prelude.{◌≡◌, ◌≢◌, ◌<◌, ◌≤◌, ◌^◌, ◌↔◌, ℕ, List, map, length, slice_index, string_bytes, decimal, IsTrue, IfSome, IfNone};
-ghost use Rattle.sv_session.specs.Command.{Command, Asks, cat, check};
+ghost use Rattle.sv_session.specs.Command.{Command, Asks, cat, check, replay};
 ghost use Rattle.sv_session.specs.Words.{asked};
 
 /// What the words of the command line ask for.
@@ -10,6 +10,8 @@ pub enum Request<'a> {
     Cat { image: &'a str, inode: u32 },
     /// Write one line on a sound image.
     Check { image: &'a str },
+    /// Write the listing that a journal over an image leads to.
+    Replay { image: &'a str, journal: &'a str },
 }
 
 /// Reads the words after the program's name. A number is decimal digits, without sign or leading zero.
@@ -19,7 +21,19 @@ pub fn read_words(words: &[String]) -> Option<Request<'_>>
 {
     match read_check(words) {
         Some(request) => Some(request),
-        None => read_cat(words),
+        None => read_three(words),
+    }
+}
+
+// One of the commands of three words.
+fn read_three(words: &[String]) -> Option<Request<'_>>
+    ensures some { IfSome result (λ request. Asks (map string_bytes words.now) (asked request)) }
+    ensures no_cat { IfNone result ((image : List ℕ) (inode : ℕ) → Asks (map string_bytes words.now) (cat image inode) → ⊥) }
+    ensures no_replay { IfNone result ((image journal : List ℕ) → Asks (map string_bytes words.now) (replay image journal) → ⊥) }
+{
+    match read_cat(words) {
+        Some(request) => Some(request),
+        None => read_replay(words),
     }
 }
 
@@ -54,6 +68,23 @@ fn read_cat(words: &[String]) -> Option<Request<'_>>
     Some(Request::Cat {
         image: image.as_str(),
         inode,
+    })
+}
+
+// `replay IMAGE JOURNAL`.
+fn read_replay(words: &[String]) -> Option<Request<'_>>
+    ensures some { IfSome result (λ request. Asks (map string_bytes words.now) (asked request)) }
+    ensures none { IfNone result ((image journal : List ℕ) → Asks (map string_bytes words.now) (replay image journal) → ⊥) }
+{
+    let [command, image, journal] = words else {
+        return None;
+    };
+    if command.as_str() != "replay" {
+        return None;
+    }
+    Some(Request::Replay {
+        image: image.as_str(),
+        journal: journal.as_str(),
     })
 }
 
