@@ -83,20 +83,25 @@ def dots(number, above):
     return entry(number, ".") + entry(above, "..")
 
 
-def files(path, directories, each, size):
-    """So many directories in the root, each with so many files of so many bytes."""
-    image = Image(1 + directories * (each + 1) + 1)
-    root, number = dots(2, 2), 3
+def fill(image, spell, root, directories, each, size):
+    """Puts so many directories below the root, each with so many files of so many bytes, and gives the root's entries."""
+    entries, number = spell(root, ".") + spell(root, ".."), root + 1
     for d in range(directories):
-        here, entries = number, dots(number, 2)
+        here, names = number, spell(number, ".") + spell(root, "..")
         number += 1
         for f in range(each):
             image.inode(number, FILE, 1, bytes([f % 251 + 1]) * size)
-            entries += entry(number, f"f{f}")
+            names += spell(number, f"f{f}")
             number += 1
-        image.inode(here, DIR, 2, entries)
-        root += entry(here, f"d{d}")
-    image.inode(2, DIR, 2 + directories, root)
+        image.inode(here, DIR, 2, names)
+        entries += spell(here, f"d{d}")
+    return entries
+
+
+def files(path, directories, each, size):
+    """So many directories in the root, each with so many files of so many bytes."""
+    image = Image(1 + directories * (each + 1) + 1)
+    image.inode(2, DIR, 2 + directories, fill(image, entry, 2, directories, each, size))
     image.close(path)
 
 
@@ -183,17 +188,7 @@ def minix_entry(number, name):
 
 def minix(path, directories, each, size):
     image = Minix(path, 2 + directories * (each + 1))
-    root, number = minix_entry(1, ".") + minix_entry(1, ".."), 2
-    for d in range(directories):
-        here = number
-        entries = minix_entry(number, ".") + minix_entry(1, "..")
-        number += 1
-        for f in range(each):
-            image.inode(number, FILE, 1, bytes([f % 251 + 1]) * size)
-            entries += minix_entry(number, f"f{f}")
-            number += 1
-        image.inode(here, DIR, 2, entries)
-        root += minix_entry(here, f"d{d}")
+    root = fill(image, minix_entry, 1, directories, each, size)
     image.bytes[image.first * BLOCK:(image.first + 1) * BLOCK] = root[:BLOCK].ljust(BLOCK, b"\0")
     image.inode(1, DIR, 2 + directories, root, first=image.first)
     image.close()
