@@ -7,6 +7,7 @@ pub mod LinkBlock
 pub mod Name
 pub mod NameInside
 pub mod Node
+pub mod NodeChanges
 pub mod NodeEntries
 pub mod Number
 pub mod OwnerTable

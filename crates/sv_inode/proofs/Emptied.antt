@@ -7,6 +7,7 @@ use Rattle.std.proofs.lemmas.Bool.Decides.{nat_tests}
 use Rattle.sv_dev.specs.Causes.{last_count}
 use Rattle.sv_form.specs.Geometry.{IsGeometry, IsNumber, block_lines, inode_count, inode_place}
 use Rattle.sv_form.specs.Node.{Node}
+use Rattle.sv_form.specs.NodeChanges.{emptied}
 use Rattle.sv_form.specs.PagePath.{block_numbers}
 use Rattle.sv_form.specs.declared.geometry.Geometry.{Geometry}
 use Rattle.sv_form.specs.declared.inode.InodeBody.{InodeBody}
@@ -17,7 +18,7 @@ use Rattle.sv_bmap.proofs.Empty.{down-hole, empty-tree, thirteen, zeros}
 use Rattle.sv_super.specs.Core.{Core}
 use Rattle.sv_super.specs.Count.{times}
 use Rattle.sv_inode.specs.StandsFor.{IsDescribed, IsPageOf, StandsFor}
-use Rattle.sv_inode.specs.Truncate.{AreBlocks, CanFreeAll, FreesAll, HoldsInode, IsCut, IsCutFrom, emptied, less_all, names_of, only}
+use Rattle.sv_inode.specs.Truncate.{AreBlocks, CanFreeAll, FreesAll, HoldsInode, IsCut, IsCutFrom, less_all, names_of, only}
 use Rattle.sv_inode.proofs.GivenBack.{only-at}
 
 hole-page : (g : Geometry) (h : Held) (page : ℕ) → page_block g h thirteen page ≡ 0

@@ -1,17 +1,11 @@
 -- A file is cut to nothing: its blocks are cut off its stake, and become free.
 use Rattle.std.specs.Prelude.{◌≡◌, ◌≤◌, ◌<◌, ◌+◌, ◌++◌, ◌⊎◌, ℕ, Bool, false, List, length, map, None, IsSome, nat_lt, if◌then◌else◌}
 use Rattle.std.specs.List.{All}
-use Rattle.std.specs.FinMap as fmap
 use Rattle.sv_dev.specs.Causes.{last_count}
 use Rattle.sv_form.specs.Geometry.{IsDataBlock, IsNumber, inode_place}
-use Rattle.sv_form.specs.Node.{Node}
 use Rattle.sv_store.specs.Held.{Apart, Held, Lent, Origin, HoldsBlock, nothing_lent}
 use Rattle.sv_super.specs.Core.{Core, alone}
 use Rattle.sv_super.specs.Count.{times}
-
--- the node without bytes and pages
-abbrev pub emptied : Node → Node
-emptied node = record node { size = 0; pages = fmap.empty }
 
 -- the lines of these blocks alone, and those of all others
 unfoldable pub only : List ℕ → Held → Held

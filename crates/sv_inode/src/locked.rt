@@ -2,6 +2,7 @@
 ghost use Rattle.std.specs.Prelude.{◌≡◌, ◌≤◌, ◌+◌, ◌-◌, ℕ, IfOk, OnErr, OnOk, length, max, min, replicate};
 ghost use Rattle.sv_dev.specs.Causes.{counted};
 ghost use Rattle.sv_form.specs.Node.{Node, bytes_of};
+ghost use Rattle.sv_form.specs.NodeChanges.{emptied};
 ghost use Rattle.sv_form.specs.PagePath.{greatest_size};
 ghost use Rattle.sv_store.specs.Held.{Apart, Both, SameLines, nothing_lent};
 ghost use Rattle.sv_super.specs.Count.{times};
@@ -10,7 +11,7 @@ ghost use Rattle.sv_bmap.specs.Order.{blocks_of};
 ghost use Rattle.sv_bmap.specs.Tree.{IsTree};
 ghost use Rattle.sv_inode.specs.Contents.{file_bytes};
 ghost use Rattle.sv_inode.specs.StandsFor.{HasDataBlocks, StandsFor};
-ghost use Rattle.sv_inode.specs.Truncate.{FreesAll, HoldsInode, emptied, less_all, only};
+ghost use Rattle.sv_inode.specs.Truncate.{FreesAll, HoldsInode, less_all, only};
 
 use crate::cuts::{cut_all, free_all};
 use crate::range::read_range;

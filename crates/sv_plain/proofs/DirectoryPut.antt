@@ -13,7 +13,7 @@ use Rattle.sv_form.specs.Node.{Node, byte_of, page_byte, entry_count, entry_inod
 use Rattle.sv_plain.specs.Totals.{one_if}
 use Rattle.sv_plain.specs.Fs.{naming_count}
 use Rattle.sv_plain.specs.Whole.{IsPage, IsNode, IsEntryAt, IsDirectory}
-use Rattle.sv_plain.specs.Change.{page_after}
+use Rattle.sv_form.specs.NodeChanges.{page_after}
 use Rattle.sv_plain.proofs.Counts.{same_key, count-cons, count_alike, count_changed}
 use Rattle.sv_plain.proofs.EntryPut.{with_put, whole_place, outside, got_page, at_page, inode-other, name_bytes-other, name-other, pages-new}
 

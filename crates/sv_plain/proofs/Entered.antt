@@ -5,7 +5,8 @@ use Rattle.sv_form.specs.Name.{IsName}
 use Rattle.sv_form.specs.Node.{Node, entry_count}
 use Rattle.sv_plain.specs.Fs.{Fs, insert_some, changed, with_page, with_page_of}
 use Rattle.sv_plain.specs.Names.{empty_place}
-use Rattle.sv_plain.specs.Change.{entry_bytes, page_after, with_entry, spent}
+use Rattle.sv_form.specs.NodeChanges.{page_after}
+use Rattle.sv_plain.specs.Change.{entry_bytes, with_entry, spent}
 use Rattle.sv_plain.specs.Entered.{with_size, with_sized_page}
 use Rattle.sv_plain.specs.Step.{enter_change}
 use Rattle.sv_plain.specs.Needs.{enter_need}

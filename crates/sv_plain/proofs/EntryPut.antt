@@ -10,8 +10,7 @@ use Rattle.std.specs.Cmp.{nat_cmp_total, Equal-is}
 use Rattle.std.specs.FinMap as fmap
 use Rattle.std.specs.FinMap.{nat_cmp-IsAntisymmetric}
 use Rattle.sv_form.specs.Node.{Node, byte_of, page_byte, bytes_of, entry_inode, entry_name, name_bytes, until_zero}
-use Rattle.sv_plain.specs.Needs.{touched}
-use Rattle.sv_plain.specs.Change.{page_after, with_pages, put}
+use Rattle.sv_form.specs.NodeChanges.{touched, page_after, with_pages, put}
 use Rattle.sv_plain.proofs.Got.{got}
 use Rattle.sv_plain.proofs.Counts.{same_key}
 

@@ -15,7 +15,8 @@ use Rattle.sv_plain.specs.Totals.{at_or_0, one_if}
 use Rattle.sv_plain.specs.Fs.{Fs, used_by_all, changed, insert_some, pending_on}
 use Rattle.sv_plain.specs.Whole.{IsWhole, IsNode}
 use Rattle.sv_plain.specs.Names.{some_and, is_directory, links_of, has_reference, is_pending}
-use Rattle.sv_plain.specs.Change.{with_links, emptied}
+use Rattle.sv_form.specs.NodeChanges.{emptied}
+use Rattle.sv_plain.specs.Change.{with_links}
 use Rattle.sv_plain.specs.Step.{add_link_replies, add_link_change, sub_link_change, trunc_replies, trunc_change}
 use Rattle.sv_plain.proofs.Got.{and_left, and_right, not_true, got, left}
 use Rattle.sv_plain.proofs.Totals.{total-insert, total-remove}

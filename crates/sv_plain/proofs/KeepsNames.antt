@@ -14,7 +14,8 @@ use Rattle.sv_plain.specs.Totals.{at_or_0, one_if}
 use Rattle.sv_plain.specs.Fs.{Fs, used_by_all, promised, changed, insert_some, is_live, is_full_for, pending_on}
 use Rattle.sv_plain.specs.Whole.{IsWhole, IsEntryAt}
 use Rattle.sv_plain.specs.Names.{some_and, place_of, child_of, child, is_directory, is_open_to_names, child_passes}
-use Rattle.sv_plain.specs.Change.{put, without_entry, with_links}
+use Rattle.sv_form.specs.NodeChanges.{put}
+use Rattle.sv_plain.specs.Change.{without_entry, with_links}
 use Rattle.sv_plain.specs.Step.{is_dots, unlink_replies, unlink_change}
 use Rattle.sv_plain.proofs.Got.{and_left, and_right, not_true, got}
 use Rattle.sv_plain.proofs.Counts.{differs, same_key}

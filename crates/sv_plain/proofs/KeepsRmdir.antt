@@ -11,7 +11,8 @@ use Rattle.sv_plain.specs.Totals.{at_or_0, one_if}
 use Rattle.sv_plain.specs.Fs.{Fs, changed, is_live, is_full_for, naming_count, namings}
 use Rattle.sv_plain.specs.Whole.{IsWhole}
 use Rattle.sv_plain.specs.Names.{some_and, place_of, has_more, is_directory, links_of}
-use Rattle.sv_plain.specs.Change.{put, without_entry, with_links}
+use Rattle.sv_form.specs.NodeChanges.{put}
+use Rattle.sv_plain.specs.Change.{without_entry, with_links}
 use Rattle.sv_plain.specs.Step.{is_dots, is_in_use, rmdir_replies, rmdir_change}
 use Rattle.sv_plain.proofs.Got.{and_left, and_right, not_true}
 use Rattle.sv_plain.proofs.Counts.{count_alike, count_none, count_some}

@@ -16,7 +16,8 @@ use Rattle.sv_plain.specs.Fs.{Fs}
 use Rattle.sv_plain.specs.Whole.{IsWhole}
 use Rattle.sv_plain.specs.Names.{some_and, promise_of}
 use Rattle.sv_plain.specs.Needs.{range_need, write_need}
-use Rattle.sv_plain.specs.Change.{put, spent, with_offset}
+use Rattle.sv_form.specs.NodeChanges.{put}
+use Rattle.sv_plain.specs.Change.{spent, with_offset}
 use Rattle.sv_plain.specs.Step.{writes, write_allowed, written, written_at, ends_page, write_replies, write_change}
 use Rattle.sv_plain.proofs.Got.{and_left, and_right}
 use Rattle.sv_plain.proofs.Used.{used_by_all-insert}

@@ -10,7 +10,8 @@ use Rattle.sv_form.specs.Node.{Node, block_set, numbers_per, used}
 use Rattle.sv_plain.specs.declared.fs.Fs.TheInside.{Inside}
 use Rattle.sv_plain.specs.Totals.{at_or_0}
 use Rattle.sv_plain.specs.Fs.{used_by_all, changed, insert_some, with_page}
-use Rattle.sv_plain.specs.Change.{with_links, emptied}
+use Rattle.sv_form.specs.NodeChanges.{emptied}
+use Rattle.sv_plain.specs.Change.{with_links}
 use Rattle.sv_plain.specs.Keeping.{IsKept, AreBlocksOf}
 use Rattle.sv_plain.proofs.Undone.{insert-known, insert-insert, insert-remove}
 use Rattle.sv_plain.proofs.Used.{used-none, used_by_all-insert, block_set-empty, block_set-insert}

@@ -9,7 +9,7 @@ use Rattle.std.specs.FinSet as set
 use Rattle.sv_form.specs.Node.{Node}
 use Rattle.sv_plain.specs.Totals.{at_or_0}
 use Rattle.sv_plain.specs.Fs.{with_page}
-use Rattle.sv_plain.specs.Change.{put}
+use Rattle.sv_form.specs.NodeChanges.{put}
 use Rattle.sv_plain.specs.Unlinked.{has_no_links, AreUnlinked}
 use Rattle.sv_plain.proofs.KeepsFile.{get_new}
 

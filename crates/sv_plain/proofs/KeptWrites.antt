@@ -6,7 +6,7 @@ use Rattle.sv_form.specs.Node.{Node, used}
 use Rattle.sv_plain.specs.declared.fs.Fs.TheInside.{Inside}
 use Rattle.sv_plain.specs.Totals.{at_or_0}
 use Rattle.sv_plain.specs.Needs.{range_need}
-use Rattle.sv_plain.specs.Change.{put}
+use Rattle.sv_form.specs.NodeChanges.{put}
 use Rattle.sv_plain.specs.Keeping.{IsKept, fs_of}
 use Rattle.sv_plain.specs.Missing.{node_blocks}
 use Rattle.sv_plain.proofs.Used.{used_by_all-insert}

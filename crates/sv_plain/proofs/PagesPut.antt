@@ -15,8 +15,8 @@ use Rattle.sv_form.specs.Pair.{pair_cmp, pair_cmp_total, pair_cmp-IsAntisymmetri
 use Rattle.sv_form.specs.Node.{Node, byte_of, blocks_at, block_set, numbers_per, used}
 use Rattle.sv_plain.specs.Blocks.{with_blocks}
 use Rattle.sv_plain.specs.Whole.{IsPage, IsNode}
-use Rattle.sv_plain.specs.Needs.{touched, blocks_added, range_need}
-use Rattle.sv_plain.specs.Change.{page_after, with_pages, put}
+use Rattle.sv_form.specs.NodeChanges.{touched, page_after, with_pages, put}
+use Rattle.sv_plain.specs.Needs.{blocks_added, range_need}
 use Rattle.sv_plain.proofs.Got.{got}
 use Rattle.sv_plain.proofs.Used.{turned, any-cons, contains-with_blocks, block_set-insert, len-with_blocks}
 use Rattle.sv_plain.proofs.EntryPut.{outside}

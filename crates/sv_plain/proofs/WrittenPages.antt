@@ -18,8 +18,7 @@ use Rattle.sv_plain.specs.Blocks.{with_blocks}
 use Rattle.sv_plain.specs.Missing.{missing}
 use Rattle.sv_plain.specs.Written.{Pages, present, all_present, with_pages_from, without_blocks, without_page, without_pages}
 use Rattle.sv_plain.specs.Fs.{with_page}
-use Rattle.sv_plain.specs.Needs.{touched}
-use Rattle.sv_plain.specs.Change.{page_after, with_pages, put}
+use Rattle.sv_form.specs.NodeChanges.{touched, page_after, with_pages, put}
 use Rattle.sv_plain.proofs.Counts.{same_key}
 use Rattle.sv_plain.proofs.Undone.{insert-known}
 use Rattle.sv_plain.proofs.Kept.{some_of}

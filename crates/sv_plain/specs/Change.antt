@@ -1,37 +1,18 @@
 -- What steps change.
-use Rattle.std.specs.Prelude.{◌+◌, ◌-◌, ◌*◌, ◌/◌, ◌%◌, ◌==◌, ◌&&◌, ℕ, not, List, [], ◌∷◌, ◌++◌, map, length, max, replicate, Option, Some, None, unwrap_or, slice_index, nat_le, nat_lt, if◌then◌else◌}
-use Rattle.std.specs.List.{range_with_len}
+use Rattle.std.specs.Prelude.{◌+◌, ◌-◌, ◌*◌, ◌/◌, ◌%◌, ℕ, not, List, [], ◌∷◌, ◌++◌, replicate, Option, Some, None, unwrap_or, nat_le, if◌then◌else◌}
 use Rattle.std.specs.Ordering.{nat_cmp}
 use Rattle.std.specs.FinMap as fmap
 use Rattle.sv_form.specs.Entry.{filled}
 use Rattle.sv_form.specs.Pair.{pair_cmp}
 use Rattle.sv_form.specs.declared.kind.Kind.{Kind}
 use Rattle.sv_form.specs.declared.kind.Kind.TheVariants.{File, Dir}
-use Rattle.sv_form.specs.Node.{Node, byte_of, entry_count}
+use Rattle.sv_form.specs.Node.{Node, entry_count}
+use Rattle.sv_form.specs.NodeChanges.{put}
 use Rattle.sv_plain.specs.declared.opening.Opening.{Opening}
 use Rattle.sv_plain.specs.Fs.{Fs}
 use Rattle.sv_plain.specs.Names.{place_of, empty_place, references_of, is_lost}
-use Rattle.sv_plain.specs.Needs.{touched}
 
 -- ---- the bytes of a node
-
--- byte k once `bytes` were put at `at`, and a page then
-abbrev pub byte_after : ℕ → Node → ℕ → List ℕ → ℕ → ℕ
-byte_after block node at bytes k = if nat_le at k && nat_lt k (at + length bytes) then slice_index bytes (k - at) else byte_of block node k
-
-abbrev pub page_after : ℕ → Node → ℕ → List ℕ → ℕ → List ℕ
-page_after block node at bytes page = map (byte_after block node at bytes) (range_with_len (page * block) block)
-
-abbrev pub with_pages : fmap.FinMap nat_cmp (List ℕ) → (ℕ → List ℕ) → List ℕ → fmap.FinMap nat_cmp (List ℕ)
-with_pages pages f [] = pages
-with_pages pages f (p ∷ ps) = fmap.insert (with_pages pages f ps) p (f p)
-
--- a node once `bytes` were put at `at`: it ends no earlier than they do, and no byte changes nothing
-unfoldable pub put : ℕ → Node → ℕ → List ℕ → Node
-put block node at bytes = record node {
-  pages = with_pages node.pages (page_after block node at bytes) (touched block at (length bytes));
-  size = if length bytes == 0 then node.size else max node.size (at + length bytes);
-}
 
 -- the sixteen bytes of an entry
 abbrev pub entry_bytes : ℕ → List ℕ → List ℕ
@@ -48,10 +29,6 @@ without_entry block name node = put block node (16 * unwrap_or (place_of block n
 -- a node with other links
 abbrev pub with_links : (ℕ → ℕ) → Node → Node
 with_links f node = record node { links = f node.links }
-
--- a node without bytes
-abbrev pub emptied : Node → Node
-emptied node = record node { size = 0; pages = fmap.empty }
 
 -- a new file, and a new directory i in directory d: `.` and `..`
 abbrev pub new_node : ℕ → ℕ → ℕ → ℕ → Kind → Node

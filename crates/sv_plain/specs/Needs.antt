@@ -1,18 +1,14 @@
 -- How many blocks a step takes at most: what a process has promised to it.
 use Rattle.std.specs.Prelude.{◌+◌, ◌-◌, ◌/◌, ◌%◌, ◌==◌, ◌||◌, ℕ, Bool, not, List, [], ◌∷◌, ◌++◌, is_some, if◌then◌else◌}
-use Rattle.std.specs.List.{range_with_len}
 use Rattle.std.specs.FinMap as map
 use Rattle.std.specs.FinSet as set
 use Rattle.sv_form.specs.Node.{Node, block_set, numbers_per}
+use Rattle.sv_form.specs.NodeChanges.{touched}
 use Rattle.sv_plain.specs.declared.need.Need.{Need}
 use Rattle.sv_plain.specs.declared.need.Need.TheVariants.{Write, Enter, Make}
 use Rattle.sv_plain.specs.Totals.{at_or_0}
 use Rattle.sv_plain.specs.Fs.{Fs}
 use Rattle.sv_plain.specs.Names.{is_open_to_names, child, empty_place}
-
--- the pages that `count` bytes from `at` on lie in
-abbrev pub touched : ℕ → ℕ → ℕ → List ℕ
-touched block at count = if count == 0 then [] else range_with_len (at / block) ((at + count - 1) / block - at / block + 1)
 
 -- how many blocks more a node uses with these pages besides
 unfoldable pub blocks_added : ℕ → Node → List ℕ → ℕ

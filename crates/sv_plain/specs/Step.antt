@@ -20,7 +20,8 @@ use Rattle.sv_plain.specs.Totals.{at_or_0}
 use Rattle.sv_plain.specs.Fs.{Fs, is_referenced, is_full_for, free_inodes, room, changed}
 use Rattle.sv_plain.specs.Names.{some_and, same_bytes, same_kind, has_more, is_directory, links_of, is_missing, child_passes, has_reference, promise_of, is_pending, is_opened, is_lowest_unused, is_table_full, is_idle, is_lost}
 use Rattle.sv_plain.specs.Needs.{write_need, enter_need, make_need, need_of}
-use Rattle.sv_plain.specs.Change.{put, with_entry, without_entry, with_links, emptied, new_node, one_more, one_less, spent, changed_file, with_offset, with_reference, without_reference, without_share, without_node, without_lost}
+use Rattle.sv_form.specs.NodeChanges.{put, emptied}
+use Rattle.sv_plain.specs.Change.{with_entry, without_entry, with_links, new_node, one_more, one_less, spent, changed_file, with_offset, with_reference, without_reference, without_share, without_node, without_lost}
 
 -- ---- Look
 

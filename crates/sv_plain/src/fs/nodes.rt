@@ -4,7 +4,8 @@ ghost use Rattle.std.specs.FinMap as map;
 ghost use Rattle.std.specs.FinSet as set;
 ghost use Rattle.sv_plain.specs.Totals.{at_or_0};
 ghost use Rattle.sv_plain.specs.Fs.{changed, page_of, with_page_of};
-ghost use Rattle.sv_plain.specs.Change.{with_links, emptied, without_node, without_lost};
+ghost use Rattle.sv_form.specs.NodeChanges.{emptied};
+ghost use Rattle.sv_plain.specs.Change.{with_links, without_node, without_lost};
 ghost use Rattle.sv_plain.specs.Names.{is_idle};
 ghost use Rattle.sv_plain.specs.Unlinked.{has_no_links};
 

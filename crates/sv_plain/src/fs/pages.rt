@@ -4,7 +4,7 @@ ghost use Rattle.std.specs.FinMap as map;
 ghost use Rattle.std.specs.FinSet as set;
 ghost use Rattle.sv_plain.specs.Totals.{at_or_0};
 ghost use Rattle.sv_plain.specs.Fs.{changed};
-ghost use Rattle.sv_plain.specs.Change.{put};
+ghost use Rattle.sv_form.specs.NodeChanges.{put};
 ghost use Rattle.sv_plain.specs.Missing.{node_blocks};
 ghost use Rattle.sv_plain.specs.Needs.{range_need};
 

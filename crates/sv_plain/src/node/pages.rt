@@ -2,7 +2,7 @@
 ghost use Rattle.std.specs.Prelude.{◌≡◌, ◌<◌, ◌≤◌, ◌+◌, ◌*◌, ◌/◌, IfOk, IsSome, length};
 ghost use Rattle.std.specs.FinMap as map;
 ghost use Rattle.sv_plain.specs.Fs.{with_page};
-ghost use Rattle.sv_plain.specs.Change.{byte_after, page_after};
+ghost use Rattle.sv_form.specs.NodeChanges.{byte_after, page_after};
 
 use crate::{NoMemory, Node};
 use std::alloc::Global;

@@ -3,7 +3,7 @@ ghost use Rattle.std.specs.Prelude.{◌≡◌, ◌<◌, ◌≤◌, ◌+◌, ◌*
 ghost use Rattle.std.specs.List.{range_with_len};
 ghost use Rattle.std.specs.FinMap as fmap;
 ghost use Rattle.sv_form.specs.Node.{block_set, numbers_per};
-ghost use Rattle.sv_plain.specs.Change.{page_after, put};
+ghost use Rattle.sv_form.specs.NodeChanges.{page_after, put};
 ghost use Rattle.sv_plain.specs.Written.{present, all_present, with_pages_from, without_page, without_pages};
 
 use crate::blocks::{missing_blocks, remove_blocks};

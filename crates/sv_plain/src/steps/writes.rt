@@ -6,7 +6,8 @@ ghost use Rattle.sv_form.specs.Node.{blocks_at, numbers_per};
 ghost use Rattle.sv_plain.specs.declared.opening.Opening.{Opening};
 ghost use Rattle.sv_plain.specs.declared.op.Op.TheVariants as op;
 ghost use Rattle.sv_plain.specs.Missing.{node_blocks, is_new, added};
-ghost use Rattle.sv_plain.specs.Needs.{touched, write_need};
+ghost use Rattle.sv_form.specs.NodeChanges.{touched};
+ghost use Rattle.sv_plain.specs.Needs.{write_need};
 ghost use Rattle.sv_plain.specs.Step.{write_allowed, ends_page, write_replies, written};
 ghost use Rattle.sv_plain.specs.Taken.{IsTaken, IsRefused};
 

@@ -3,7 +3,7 @@ use Rattle.std.specs.FinMap as map
 use Rattle.sv_form.specs.Node.{Node, entry_count}
 use Rattle.sv_plain.specs.Fs.{Fs, changed, with_page, page_of}
 use Rattle.sv_plain.specs.Names.{place_of}
-use Rattle.sv_plain.specs.Change.{page_after}
+use Rattle.sv_form.specs.NodeChanges.{page_after}
 use Rattle.sv_plain.proofs.KeepsWhole.{place-of}
 use Rattle.sv_plain.proofs.ClearedEntry.{if_ok, page_with, cleared-there, cleared-in}
 use Rattle.sv_plain.proofs.fs.Fs.cleared_page.Goals as goal

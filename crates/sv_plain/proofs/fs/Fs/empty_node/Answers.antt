@@ -7,7 +7,7 @@ use Rattle.std.specs.FinSet as set
 use Rattle.sv_form.specs.Node.{Node}
 use Rattle.sv_plain.specs.Totals.{at_or_0}
 use Rattle.sv_plain.specs.Fs.{Fs, changed}
-use Rattle.sv_plain.specs.Change.{emptied}
+use Rattle.sv_form.specs.NodeChanges.{emptied}
 use Rattle.sv_plain.specs.Keeping.{fs_of}
 use Rattle.sv_plain.proofs.Undone.{insert-insert}
 use Rattle.sv_plain.proofs.KeptNodes.{used-within, kept-emptied, changed-there}

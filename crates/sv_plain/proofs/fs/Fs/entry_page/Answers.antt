@@ -4,7 +4,8 @@ use Rattle.std.specs.FinMap as map
 use Rattle.sv_form.specs.Node.{Node, entry_count}
 use Rattle.sv_plain.specs.Fs.{Fs}
 use Rattle.sv_plain.specs.Names.{empty_place}
-use Rattle.sv_plain.specs.Change.{entry_bytes, page_after}
+use Rattle.sv_form.specs.NodeChanges.{page_after}
+use Rattle.sv_plain.specs.Change.{entry_bytes}
 use Rattle.sv_plain.specs.Entered.{with_sized_page}
 use Rattle.sv_plain.proofs.Entered.{page-entered}
 use Rattle.sv_plain.proofs.fs.Fs.entry_page.Goals as goal

@@ -9,7 +9,7 @@ use Rattle.sv_form.specs.Node.{Node, block_set, numbers_per}
 use Rattle.sv_plain.specs.Totals.{at_or_0}
 use Rattle.sv_plain.specs.Fs.{Fs, changed}
 use Rattle.sv_plain.specs.Needs.{range_need}
-use Rattle.sv_plain.specs.Change.{put}
+use Rattle.sv_form.specs.NodeChanges.{put}
 use Rattle.sv_plain.specs.Keeping.{fs_of}
 use Rattle.sv_plain.proofs.Undone.{insert-insert, insert-known}
 use Rattle.sv_plain.proofs.Kept.{its_blocks, its_blocks-taken, there-twice}

@@ -1,7 +1,7 @@
 use Rattle.std.proofs.Common.{sym, ap, ◌∙◌}
 use Rattle.sv_form.specs.Node.{numbers_per}
 use Rattle.sv_plain.specs.Fs.{Fs}
-use Rattle.sv_plain.specs.Needs.{touched}
+use Rattle.sv_form.specs.NodeChanges.{touched}
 use Rattle.sv_plain.specs.Missing.{node_blocks, added}
 use Rattle.sv_plain.proofs.BlocksAdded.{added-none}
 use Rattle.sv_plain.proofs.fs.Fs.range_need.Goals as goal

@@ -2,7 +2,7 @@ use Rattle.std.proofs.Common.{sym, ◌∙◌}
 use Rattle.sv_form.specs.Node.{Node}
 use Rattle.sv_plain.specs.declared.opening.Opening.{Opening}
 use Rattle.sv_plain.specs.Fs.{Fs}
-use Rattle.sv_plain.specs.Needs.{touched}
+use Rattle.sv_form.specs.NodeChanges.{touched}
 use Rattle.sv_plain.proofs.BlocksAdded.{added-there}
 use Rattle.sv_plain.proofs.KeepsWrite.{need-is}
 use Rattle.sv_plain.proofs.fs.Fs.write_need.Goals as goal

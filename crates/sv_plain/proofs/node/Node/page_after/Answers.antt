@@ -1,7 +1,7 @@
 use Rattle.std.proofs.Common.{◌≡◌, ◌+◌, ◌*◌, ◌∷◌, [], ◌++◌, map, sym, refl, ap, ◌∙◌}
 use Rattle.std.proofs.lemmas.List.FromFn.{map-range_with_len_more}
 use Rattle.std.specs.List.{range_with_len}
-use Rattle.sv_plain.specs.Change.{byte_after}
+use Rattle.sv_form.specs.NodeChanges.{byte_after}
 use Rattle.sv_plain.proofs.node.Node.page_after.Goals as goal
 
 pub loop-r-preserved : goal.loop-r-preserved

@@ -1,6 +1,6 @@
 use Rattle.std.proofs.Common.{◌≡◌, map}
 use Rattle.std.specs.List.{range_with_len}
-use Rattle.sv_plain.specs.Change.{byte_after}
+use Rattle.sv_form.specs.NodeChanges.{byte_after}
 use Rattle.sv_plain.proofs.node.Node.page_after.Given as goal
 
 abbrev pub invariant-loop-r : goal.invariant-loop-r

@@ -1,6 +1,6 @@
 use Rattle.std.proofs.Common.{◌+◌, ◌∷◌, [], ◌++◌, ℕ, sym, refl, ◌∙◌}
 use Rattle.std.proofs.lemmas.List.FromFn.{map-range_with_len_more}
-use Rattle.sv_plain.specs.Change.{page_after}
+use Rattle.sv_form.specs.NodeChanges.{page_after}
 use Rattle.sv_plain.proofs.node.Node.pages_after.Goals as goal
 
 pub loop-k-preserved : goal.loop-k-preserved

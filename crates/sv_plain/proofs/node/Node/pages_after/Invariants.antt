@@ -1,6 +1,6 @@
 use Rattle.std.proofs.Common.{◌≡◌, map}
 use Rattle.std.specs.List.{range_with_len}
-use Rattle.sv_plain.specs.Change.{page_after}
+use Rattle.sv_form.specs.NodeChanges.{page_after}
 use Rattle.sv_plain.proofs.node.Node.pages_after.Given as goal
 
 abbrev pub invariant-loop-k : goal.invariant-loop-k

@@ -4,7 +4,7 @@ use Rattle.std.proofs.lemmas.List.FromFn.{length-map-range_with_len}
 use Rattle.std.specs.List.{range_with_len}
 use Rattle.std.specs.FinMap as fmap
 use Rattle.sv_form.specs.Node.{Node, block_set, numbers_per}
-use Rattle.sv_plain.specs.Change.{page_after, put}
+use Rattle.sv_form.specs.NodeChanges.{page_after, put}
 use Rattle.sv_plain.proofs.WrittenPages.{all_present-there, range-lists, range-few, put-by, put-none, blocks-by}
 use Rattle.sv_plain.proofs.node.Node.put.Goals as goal
 
