@@ -2,7 +2,7 @@
 //!
 //! - `write` appends the text of a list of entries to a sink, a line at a time.
 //! - `WriteFault` says why it ended early.
-//! - `read` reads such a text whole, as a `Journal` with its `Entries`. A text is a journal exactly where it is the
+//! - `read` reads such a text whole, as a `Journal` with its entries. A text is a journal exactly where it is the
 //!   spelling of one, and `JournalFault` names the first line that is none.
 //! - `gather` takes the text from a source, up to one byte past a limit.
 //! - `replay` takes a file system through a list of entries, and `ReplayFault` says at which it could not go on.
@@ -13,7 +13,6 @@
 
 mod allowed;
 mod cut;
-mod entries;
 mod field;
 #[cfg(test)]
 mod gather_tests;
@@ -40,7 +39,6 @@ mod tests;
 mod word;
 mod write_fault;
 
-pub use entries::Entries;
 pub use gathering::{GatherFault, gather};
 pub use history::replay;
 pub use journal::write;

@@ -4,11 +4,11 @@ ghost use Rattle.sv_journal.specs.Grammar.{entry, head};
 ghost use Rattle.sv_journal.specs.OneReading.{IsReadOneWay, IsReadOrRefused, IsRefusedOneWay};
 ghost use Rattle.sv_journal.specs.Reading.{IsJournalOf, IsRefused, StopsAt};
 
+use crate::JournalFault;
 use crate::read_line::{entry, head};
 use crate::refusal::Refusal;
-use crate::{Entries, JournalFault};
 use std::alloc::Global;
-use sv_plain::Entry;
+use sv_plain::{Entries, Entry};
 
 /// The most bytes of a journal.
 pub const TEXT_MAX: usize = 536870912;

@@ -3,8 +3,9 @@
 //! - `Fs` is the whole state. `Fs::new` makes an empty one, `add_node` and `put_page` fill it, `node` reads it, and
 //!   `numbers` says how many blocks and inodes are free.
 //! - `Node` is a file or a directory: kind, mode, links and size, and by `page` its bytes.
-//! - `Op` is what a process may ask for, `Reply` what it is answered, and `Entry` both with the process. What each op
-//!   may be answered, and what it changes, is `Step` of the specs; `IsLegal` and `after` are of whole histories.
+//! - `Op` is what a process may ask for, `Reply` what it is answered, `Entry` both with the process, and `Entries` a
+//!   history of them. What each op may be answered, and what it changes, is `Step` of the specs; `IsLegal` and `after` are
+//!   of whole histories.
 //! - `Opening` is an entry of the file table, and `Mode` what it was opened for.
 //!
 //! The meaning of a state, and what holds of it at every moment, are `Fs` and `IsWhole` of the specs.
@@ -13,6 +14,7 @@
 mod beginning;
 mod blocks;
 mod directory_bytes;
+mod entries;
 mod entry;
 mod fs;
 mod holder_counts;
@@ -37,6 +39,7 @@ mod tests;
 mod tree_text;
 
 pub use beginning::begin;
+pub use entries::Entries;
 pub use entry::Entry;
 pub use fs::Fs;
 pub(crate) use holder_counts::HolderCounts;

@@ -1,8 +1,8 @@
 // The entries of a history.
 ghost use Rattle.std.specs.Prelude.{◌≡◌};
 
+use crate::Entry;
 use std::marker::Model;
-use sv_plain::Entry;
 
 /// The entries of a history, in order. A contract sees them as the list.
 #[derive(Debug, Drop)]
