@@ -3,7 +3,8 @@ use Rattle.std.proofs.Common.{◌≡◌, ◌≢◌, ◌≤◌, ◌<◌, ◌+◌,
 use Rattle.std.specs.List.{refill}
 use Rattle.std.proofs.lemmas.Bool.{eqb-true, false≢true}
 use Rattle.std.proofs.lemmas.Bool.Decides.{nat_tests}
-use Rattle.std.proofs.lemmas.List.{length-reverse, length-set, get_or_past}
+use Rattle.std.proofs.lemmas.List.{get_or-reverse, length-reverse, length-set, get_or_past}
+use Rattle.std.proofs.lemmas.Option.{slice_get-get_or}
 use Rattle.sv_store.proofs.Lines.{refill_whole}
 use Rattle.sv_super.specs.Count.{one_if, times}
 use Rattle.sv_super.specs.Inodes.{Inodes, IsCache, filled, free_count, is_free_inode, past, smallest, with_free, without_last}
@@ -400,28 +401,57 @@ turned {used} {now} r {xs} {old} {new} {ys} found same lent turn back =
 
 -- ---- the next that is handed out
 
-pub next-free : {i : Inodes} (old : Inodes) {count : ℕ} (r : Option ℕ) (xs : List ℕ) → i ≡ filled old → IsCache i count → xs ≡ i.cached → r ≡ slice_get xs (length xs - 1) → IfSome r (λ n. is_free_inode old.used n ≡ true)
-next-free {i} old {count} r xs same is e is_last = by r (is_last ∙ ap (λ q. slice_get q (length q - 1)) e)
-  where
-    some : (n : ℕ) → Some n ≡ slice_get i.cached (length i.cached - 1) → 1 ≤ length i.cached
-    some n e = at i.cached e
-      where
-        at : (ys : List ℕ) → Some n ≡ slice_get ys (length ys - 1) → 1 ≤ length ys
-        at [] e = let no : ⊥ = cc e in absurd no
-        at (y ∷ ys) e = omega arith
+-- the number at the end of the cache once it was filled
+abbrev pub next_of : Inodes → Option ℕ
+next_of i = slice_get (filled i).cached (length (filled i).cached - 1)
 
-    by : (q : Option ℕ) → q ≡ slice_get i.cached (length i.cached - 1) → IfSome q (λ n. is_free_inode old.used n ≡ true)
-    by None e = tt
-    by (Some n) e =
-        ap (λ u. is_free_inode u n) (sym (ap (λ j. j.used) same ∙ filled-used old))
-        ∙ (ap (is_free_inode i.used) (get-some i.cached (length i.cached - 1) n e) ∙ last-free is (some n e))
+some-long : (xs : List ℕ) (n : ℕ) → Some n ≡ slice_get xs (length xs - 1) → 1 ≤ length xs
+some-long [] n e = let no : ⊥ = cc e in absurd no
+some-long (x ∷ xs) n e = omega arith
 
-pub next-none : {i : Inodes} (old : Inodes) {count : ℕ} (r : Option ℕ) (xs : List ℕ) → i ≡ filled old → IsCache i count → xs ≡ i.cached → r ≡ slice_get xs (length xs - 1) → IfNone r ((n : ℕ) → is_free_inode old.used n ≡ false)
-next-none {i} old {count} r xs same is e is_last = by r (is_last ∙ ap (λ q. slice_get q (length q - 1)) e)
+-- what is promised of the next number
+pub record IsNext (i : Inodes) (r : Option ℕ) : Type 0 where
+  pub some : IfSome r (λ n. n ≡ get_or (filled i).cached (length (filled i).cached - 1) 0)
+  pub cached : IfSome r (λ _. 1 ≤ length (filled i).cached)
+  pub free : IfSome r (λ n. is_free_inode i.used n ≡ true)
+  pub none : IfNone r ((n : ℕ) → is_free_inode i.used n ≡ false)
+
+next-at : {i : Inodes} {count : ℕ} (r : Option ℕ) → IsCache i count → r ≡ next_of i → IsNext i r
+next-at {i} None is e = record { some = tt; cached = tt; free = tt; none = filled-none i (kept-filled is) (get-none (filled i).cached e) }
+next-at {i} (Some n) is e = record {
+  some = get-some (filled i).cached (length (filled i).cached - 1) n e;
+  cached = some-long (filled i).cached n e;
+  free = ap (λ u. is_free_inode u n) (sym (filled-used i)) ∙ (ap (is_free_inode (filled i).used) (get-some (filled i).cached (length (filled i).cached - 1) n e) ∙ last-free (kept-filled is) (some-long (filled i).cached n e));
+  none = tt;
+}
+
+-- no inode is left
+pub next-none : {i now : Inodes} {count : ℕ} → i ≡ now → IsCache i count → count ≡ 0 → IsNext now None
+next-none {i} {now} {count} same is none = subst (λ j. IsNext j None) same (record { some = tt; cached = tt; free = tt; none = λ n. free n (is_free_inode i.used n) refl })
   where
-    by : (q : Option ℕ) → q ≡ slice_get i.cached (length i.cached - 1) → IfNone q ((n : ℕ) → is_free_inode old.used n ≡ false)
-    by (Some n) e = tt
-    by None e = filled-none old (subst (λ j. IsCache j count) same is) (sym (ap (λ j. length j.cached) same) ∙ get-none i.cached e)
+    free : (n : ℕ) (t : Bool) → is_free_inode i.used n ≡ t → is_free_inode i.used n ≡ false
+    free n false e = e
+    free n true e = let some = count-some i.used n e in let left = is.left in absurd (omega arith)
+
+-- the last of a cache that is not empty
+pub next-last : {i now : Inodes} {count : ℕ} (r : Option ℕ) (xs : List ℕ) → i ≡ now → IsCache i count → 0 < length i.cached → xs ≡ i.cached → r ≡ slice_get xs (length xs - 1) → IsNext now r
+next-last {i} {now} {count} r xs same is some e last =
+    subst (λ j. IsNext j r) same
+    (next-at r is (last ∙ (ap (λ q. slice_get q (length q - 1)) e ∙ ap (λ (j : Inodes). slice_get j.cached (length j.cached - 1)) (sym (filled-same i (other (length i.cached) 0 (λ z. absurd (omega arith))))))))
+
+reverse-last : (xs : List ℕ) → slice_get xs 0 ≡ slice_get (reverse xs) (length (reverse xs) - 1)
+reverse-last [] = refl
+reverse-last (x ∷ xs) =
+    let long : length (reverse (x ∷ xs)) ≡ length xs + 1 = length-reverse (x ∷ xs) ∙ (let e : suc (length xs) ≡ length xs + 1 = omega arith in e) in
+    let front : length (x ∷ xs) - 1 - (length (reverse (x ∷ xs)) - 1) ≡ 0 = omega (arith, long) in
+    sym (slice_get-get_or (reverse (x ∷ xs)) (length (reverse (x ∷ xs)) - 1) x (omega (arith, long))
+    ∙ ap Some (get_or-reverse (x ∷ xs) (length (reverse (x ∷ xs)) - 1) x (omega (arith, long)) ∙ ap (λ k. get_or (x ∷ xs) k x) front))
+
+-- the first of the numbers with which an empty cache is filled
+pub next-more : {i now : Inodes} {count : ℕ} (r : Option ℕ) → i ≡ now → IsCache i count → length i.cached ≡ 0 → r ≡ slice_get (smallest i.used 100 i.remembered) 0 → IsNext now r
+next-more {i} {now} {count} r same is none e =
+    subst (λ j. IsNext j r) same
+    (next-at r is (e ∙ (reverse-last (smallest i.used 100 i.remembered) ∙ ap (λ (j : Inodes). slice_get j.cached (length j.cached - 1)) (sym (filled-cache i (ap (λ q. q == 0) none))))))
 
 pub first-cache-of : {used used' : List Bool} {cached cached' : List ℕ} {count : ℕ} → used' ≡ used → cached' ≡ cached → length used ≤ 65520 → ((n : ℕ) → 0 < times n cached → is_free_inode used n ≡ true) → ((n : ℕ) → times n cached ≤ 1) → count ≡ free_count used → IsCache (record { used = used'; cached = cached'; remembered = 2 }) count
 first-cache-of {used} {used'} {cached} {cached'} {count} e f few free once left =

@@ -1,5 +1,5 @@
 // The free inodes, without their lines.
-ghost use Rattle.std.specs.Prelude.{◌≡◌, ◌≤◌, ◌<◌, ◌-◌, ◌++◌, ◌∷◌, [], ℕ, true, false, IfOk, IfNone, IfSome, length, slice_index, filter};
+ghost use Rattle.std.specs.Prelude.{◌≡◌, ◌≤◌, ◌<◌, ◌-◌, ◌++◌, ◌∷◌, [], ℕ, true, false, IfOk, IfNone, IfSome, length, slice_get, slice_index, filter};
 ghost use Rattle.sv_super.specs.Count.{one_if, times};
 ghost use Rattle.sv_super.specs.Inodes.{filled, free_count, is_free_inode, past, smallest, with_free, without_last};
 
@@ -64,15 +64,19 @@ impl FreeInodes {
         copy_of(self.cached.as_slice())
     }
 
-    /// The inode that is handed out next. The cache is filled first where it is empty.
-    pub fn next(&mut self) -> Option<u16>
-        ensures cache { self.new ≡ filled self.old }
-        ensures some { IfSome result (λ n. n ≡ slice_index self.new.cached (length self.new.cached - 1)) }
-        ensures cached { IfSome result (λ _. 1 ≤ length self.new.cached) }
-        ensures free { IfSome result (λ n. is_free_inode self.old.used n ≡ true) }
-        ensures none { IfNone result ((n : ℕ) → is_free_inode self.old.used n ≡ false) }
+    /// The inode that is handed out next: the last of the cache, which is filled first where it is empty.
+    pub fn next(&self) -> Option<u16>
+        ensures some { IfSome result (λ n. n ≡ slice_index (filled self.now).cached (length (filled self.now).cached - 1)) }
+        ensures cached { IfSome result (λ _. 1 ≤ length (filled self.now).cached) }
+        ensures free { IfSome result (λ n. is_free_inode self.now.used n ≡ true) }
+        ensures none { IfNone result ((n : ℕ) → is_free_inode self.now.used n ≡ false) }
     {
-        self.fill();
+        if self.left == 0 {
+            return None;
+        }
+        if self.cached.is_empty() {
+            return first_free(self.used.as_slice(), self.remembered);
+        }
         self.cached.as_slice().last().copied()
     }
 
@@ -89,8 +93,17 @@ impl FreeInodes {
         self.cached = more;
     }
 
-    /// The last of the cache is in use from now on.
+    /// The last of the cache, which is filled first where it is empty, is in use from now on.
     pub fn take(&mut self)
+        requires { 1 ≤ length (filled self.old).cached }
+        ensures { self.new ≡ without_last (filled self.old) }
+    {
+        self.fill();
+        self.take_last();
+    }
+
+    // The last of the cache is in use from now on.
+    fn take_last(&mut self)
         requires { 1 ≤ length self.old.cached }
         ensures { self.new ≡ without_last self.old }
     {
@@ -166,6 +179,14 @@ fn smallest_free(used: &[bool], from: u16) -> ArrayVec<u16, 100>
         add_free(used, n, &mut found);
     }
     found
+}
+
+// The first free inode from this one on.
+fn first_free(used: &[bool], from: u16) -> Option<u16>
+    requires { length used.now ≤ 65520 }
+    ensures { result ≡ slice_get (smallest used.now 100 from) 0 }
+{
+    smallest_free(used, from).as_slice().first().copied()
 }
 
 // Adds an inode where it is free.

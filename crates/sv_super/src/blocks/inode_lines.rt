@@ -5,7 +5,7 @@ ghost use Rattle.sv_form.specs.Geometry.{inode_count, inode_place};
 ghost use Rattle.sv_store.specs.Held.{Apart, Both, nothing_lent};
 ghost use Rattle.sv_super.specs.Calls.{TakesInode};
 ghost use Rattle.sv_super.specs.Core.{HoldsInodes, HoldsSuper, line_alone, line_less};
-ghost use Rattle.sv_super.specs.Inodes.{filled, free_count, is_free_inode, with_free};
+ghost use Rattle.sv_super.specs.Inodes.{free_count, is_free_inode, with_free};
 
 use crate::SuperCore;
 use std::alloc::Global;
@@ -22,7 +22,7 @@ impl<S: Stake> SuperCore<S> {
     }
 
     /// Hands a free inode out with its line, which is zero bytes (Bach, chapter 4.6, algorithm ialloc); none exactly where
-    /// none is free. A refusal is want of memory, and leaves all inodes that were free.
+    /// none is free. A refusal is want of memory, and changes nothing.
     pub fn ialloc(&mut self, alloc: Global) -> Result<Option<(u16, S)>, NoMemory>
         ensures none { IfOk result (λ got. IfNone got ((n : ℕ) → is_free_inode self.old.inodes.used n ≡ false)) }
         ensures taken { IfOk result (λ got. IfSome got (λ taken. TakesInode (S.origin self.old.stake) (S.held self.old.stake) (S.held self.new.stake) (S.held taken.1) self.old.inodes self.new.inodes taken.0)) }
@@ -31,9 +31,9 @@ impl<S: Stake> SuperCore<S> {
         ensures part_forced { IfOk result (λ got. IfSome got (λ taken. S.forced taken.1 ≡ false)) }
         ensures part_origin { IfOk result (λ got. IfSome got (λ taken. S.origin taken.1 ≡ S.origin self.old.stake)) }
         ensures kept { IfOk result (λ got. IfNone got (S.held self.new.stake ≡ S.held self.old.stake)) }
-        ensures cache { IfOk result (λ got. IfNone got (self.new.inodes ≡ filled self.old.inodes)) }
+        ensures inodes_kept { IfOk result (λ got. IfNone got (self.new.inodes ≡ self.old.inodes)) }
         ensures held { OnErr result (S.held self.new.stake ≡ S.held self.old.stake) }
-        ensures inodes { OnErr result (self.new.inodes ≡ filled self.old.inodes) }
+        ensures inodes { OnErr result (self.new.inodes ≡ self.old.inodes) }
         ensures chain { self.new.chain ≡ self.old.chain }
         ensures aside { self.new.aside ≡ self.old.aside }
         ensures spare { self.new.spare ≡ self.old.spare }

@@ -4,14 +4,10 @@ use Rattle.sv_form.specs.Geometry.{IsGeometry, inode_count, inode_place}
 use Rattle.sv_form.specs.declared.place.Place.{Place}
 use Rattle.sv_super.specs.Calls.{TakesInode}
 use Rattle.sv_super.specs.Core.{Core, line_alone, line_less}
-use Rattle.sv_super.specs.Inodes.{without_last}
-use Rattle.sv_super.proofs.Caches.{filled-used, taken-used}
+use Rattle.sv_super.proofs.Caches.{taken-used}
 use Rattle.sv_super.proofs.FreeNumbers.{free-range}
 use Rattle.sv_super.proofs.InodeLines.{at-home, core-same, inodes-line_less, kept-line_less, line-alone-at}
 use Rattle.sv_super.proofs.blocks.SuperCore.ialloc.Goals as goal
-
-pub invariant_of-self : goal.invariant_of-self
-invariant_of-self g c = core-same c.self.invariant refl refl c.self.invariant.blocks.sound.lent (ap (λ q. q.used) c.next.ensures.cache ∙ filled-used c.self.inside.inodes)
 
 pub inode_place-requires-clause-number : goal.inode_place-requires-clause-number
 inode_place-requires-clause-number g c =
@@ -21,13 +17,13 @@ inode_place-requires-clause-number g c =
       most = (let size = c.self.invariant.inodes.size ∙ ap inode_count (sym c.geometry-sizes.ensures.value) in omega (arith, range.1, size));
     }
 
-pub invariant_of-self-in_err-part : goal.invariant_of-self-in_err-part
-invariant_of-self-in_err-part g c = core-same c.self.invariant c.cut_line.ensures.origin c.in_err-part.ensures.err c.cut_line.ensures.lends (ap (λ q. q.used) c.next.ensures.cache ∙ filled-used c.self.inside.inodes)
+pub invariant_of-self : goal.invariant_of-self
+invariant_of-self g c = core-same c.self.invariant c.cut_line.ensures.origin c.in_err-part.ensures.err c.cut_line.ensures.lends refl
 
 pub invariant_of-self-2 : goal.invariant_of-self-2
 invariant_of-self-2 g c = record {
   blocks = (kept-line_less c.in-Some.n sizes c.self.invariant.blocks c.self.invariant.inodes c.in-Some.ensures.free c.cut_line.ensures.origin c.cut_line.ensures.lends mine).0;
-  inodes = inodes-line_less c.in-Some.n sizes c.self.invariant.inodes c.in-Some.ensures.free mine (taken-used c.self.inside.inodes c.in-Some.n c.take.ensures c.next.ensures.cache c.in-Some.ensures.some) c.cut_line.ensures.origin;
+  inodes = inodes-line_less c.in-Some.n sizes c.self.invariant.inodes c.in-Some.ensures.free mine (taken-used c.self.inside.inodes c.in-Some.n c.take.ensures refl c.in-Some.ensures.some) c.cut_line.ensures.origin;
 }
   where
     sizes : IsGeometry (g.S.Stake.origin c.self.inside.stake).sizes
@@ -42,8 +38,8 @@ returns-clause-taken g c =
     subst P c.self.view_is (record {
       number = (let range = free-range c.self.inside.inodes.used c.in-Some.n c.in-Some.ensures.free in record { least = omega (arith, range.0); most = omega (arith, range.1, c.self.invariant.inodes.size) });
       free = c.in-Some.ensures.free;
-      last = c.in-Some.ensures.some ∙ ap (λ q. slice_index q.cached (length q.cached - 1)) c.next.ensures.cache;
-      inodes = c.take.ensures ∙ ap without_last c.next.ensures.cache;
+      last = c.in-Some.ensures.some;
+      inodes = c.take.ensures;
       mine = c.in_ok-part.ensures.mine ∙ ap (λ (q : Place). line_less q (g.S.Stake.held c.self.inside.stake)) place;
       theirs = theirs;
       zeros = line-alone-at (g.S.Stake.held c.self.inside.stake) (inode_place (g.S.Stake.origin c.self.inside.stake).sizes c.in-Some.n) theirs ∙ c.self.invariant.inodes.zeros c.in-Some.n c.in-Some.ensures.free;

@@ -1,7 +1,7 @@
 -- The last of the cache is a free inode.
 use Rattle.std.proofs.Common.{◌-◌, length, ◌∙◌, arith}
 use Rattle.sv_super.proofs.Caches.{can-take, get-some, take-last}
-use Rattle.sv_super.proofs.inodes.FreeInodes.take.Goals as goal
+use Rattle.sv_super.proofs.inodes.FreeInodes.take_last.Goals as goal
 
 pub overflow_sub-from : goal.overflow_sub-from
 overflow_sub-from c = (can-take c.from.result c.self.view_is c.self.invariant c.requires (c.from.ensures ∙ get-some c.self.inside.cached.items (length c.self.inside.cached.items - 1) c.in-Some.n c.in-Some.ensures.value)).least
