@@ -100,7 +100,7 @@ module _ (g : Geometry) (image : List ℕ) where
 
   -- ---- the cache in the superblock
 
-  cached-read : (s : Super) → IsSuper (superblock_of image) s → cached image ≡ s.inodes.items
+  pub cached-read : (s : Super) → IsSuper (superblock_of image) s → cached image ≡ s.inodes.items
   cached-read s is =
       let f : ℕ → ℕ = λ k. number16 (superblock_of image) (cached_at k) in
       ap (λ (n : ℕ). map f (range_with_len 0 n)) is.inodes.count ∙ table_list f s.inodes.items (λ k less. is.inodes.table k (omega (arith, less, is.inodes.fits)))

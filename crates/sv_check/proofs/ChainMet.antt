@@ -26,7 +26,7 @@ module _ (before now : ℕ → Bool) (numbers : List ℕ) (i : ℕ) where
   pub each_end : length numbers ≤ i → ((b : ℕ) → with_each now (drop i numbers) b ≡ with_each before numbers b) → (b : ℕ) → now b ≡ with_each before numbers b
   each_end over was b = sym (or_false_after (now b)) ∙ ap (λ (l : List ℕ). with_each now l b) (sym (drop_of_length-le numbers {i = i} over)) ∙ was b
 
-numbers_of-map : (numbers : List ℕ) → numbers_of (map number numbers) ≡ numbers
+pub numbers_of-map : (numbers : List ℕ) → numbers_of (map number numbers) ≡ numbers
 numbers_of-map [] = refl
 numbers_of-map (x ∷ xs) = ap (λ (l : List ℕ). x ∷ l) (numbers_of-map xs)
 

@@ -1,5 +1,5 @@
 -- The block of a page, found by its number among the pages of a file.
-use Rattle.std.proofs.Common.{◌≡◌, ◌≢◌, ◌≤◌, ◌<◌, ◌+◌, ◌==◌, ◌&&◌, ◌++◌, ◌∷◌, [], ◌∙◌, ℕ, zero, suc, Bool, true, false, List, Option, Some, None, ap, refl, sym, subst, cond, if◌then◌else◌, find, option_map, unwrap_or, drop, length, get_or, map, nat_le, nat_lt, arith}
+use Rattle.std.proofs.Common.{◌≡◌, ◌≢◌, ◌≤◌, ◌<◌, ◌+◌, ◌==◌, ◌++◌, ◌∷◌, [], ◌∙◌, ℕ, suc, Bool, true, false, List, Option, Some, None, ap, refl, sym, subst, cond, if◌then◌else◌, find, option_map, unwrap_or, drop, length, get_or, nat_le, nat_lt, arith}
 use Rattle.std.specs.List.{list_all}
 use Rattle.std.proofs.Math.ListN.{drop_of_length-le}
 use Rattle.std.proofs.Math.Seq.{drop-cons}

@@ -1,5 +1,5 @@
 -- The bytes of a file in the tree are those of its pages where they stand in the image.
-use Rattle.std.proofs.Common.{◌≡◌, ◌≢◌, ◌||◌, IsSomeAnd, ◌≤◌, ◌<◌, ◌+◌, ◌==◌, ◌/◌, ◌%◌, ◌++◌, ◌∷◌, [], ◌⊎◌, ◌∙◌, ℕ, zero, suc, Bool, not, true, false, List, Option, Some, None, ap, refl, sym, subst, inl, inr, cond, if◌then◌else◌, find, filter, option_map, unwrap_or, map, slice_index, arith}
+use Rattle.std.proofs.Common.{◌≡◌, ◌≢◌, ◌||◌, IsSomeAnd, ◌≤◌, ◌<◌, ◌+◌, ◌==◌, ◌/◌, ◌%◌, ◌++◌, ◌∷◌, [], ◌⊎◌, ◌∙◌, ℕ, zero, suc, Bool, not, true, false, List, Option, Some, None, ap, refl, sym, subst, inl, inr, cond, if◌then◌else◌, find, filter, option_map, unwrap_or, map, arith}
 use Rattle.std.specs.List.{range_with_len, list_all}
 use Rattle.std.specs.Ordering.{nat_cmp, eq_by_cmp, is_eq}
 use Rattle.std.specs.Cmp.{nat_cmp_total, tied_itself, Equal-is}

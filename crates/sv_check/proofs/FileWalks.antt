@@ -1,5 +1,5 @@
 -- The walk over the blocks of one inode alone, where the walk over those of all meets no bad number.
-use Rattle.std.proofs.Common.{◌≡◌, ◌≢◌, ◌≤◌, ◌<◌, ◌+◌, ◌==◌, ◌||◌, ◌&&◌, ◌++◌, ◌∷◌, [], ◌⊎◌, ◌∙◌, ℕ, zero, suc, Bool, not, true, false, List, Option, Some, None, ap, sym, refl, subst, inl, inr, cond, if◌then◌else◌, map, filter, flat_map, arith}
+use Rattle.std.proofs.Common.{◌≡◌, ◌≤◌, ◌<◌, ◌+◌, ◌==◌, ◌||◌, ◌&&◌, ◌++◌, ◌∷◌, [], ◌⊎◌, ◌∙◌, ℕ, zero, suc, Bool, not, true, false, List, Some, None, ap, sym, refl, inl, inr, cond, filter, flat_map, arith}
 use Rattle.std.specs.List.{range_with_len, list_all}
 use Rattle.std.proofs.lemmas.Bool.{cases_eq, false≢true}
 use Rattle.std.proofs.lemmas.List.{append-nil}
@@ -8,8 +8,8 @@ use Rattle.sv_form.specs.Geometry.{inode_count}
 use Rattle.sv_form.specs.Image.{inode_of}
 use Rattle.sv_check.specs.declared.met.Met.{Met}
 use Rattle.sv_check.specs.InodeList.{is_free, size_flaw, used_inodes}
-use Rattle.sv_check.specs.Progress.{Progress, StopsAt, met_at, met_by}
-use Rattle.sv_check.specs.Walk.{Reached, first_bad, is_data_block, is_new, met_of, nothing_met, reached, range_flaw, twice_flaw, walk, with_met}
+use Rattle.sv_check.specs.Progress.{Progress, StopsAt, met_by}
+use Rattle.sv_check.specs.Walk.{first_bad, is_data_block, is_new, met_of, nothing_met, reached, range_flaw, twice_flaw, walk, with_met}
 use Rattle.sv_check.proofs.InodeReads.{and_first, and_second}
 use Rattle.sv_check.proofs.ReadyDirectories.{bad_some, no_bad_number}
 

@@ -1,8 +1,8 @@
 -- The blocks that no inode owns are as many as the chain of free blocks has numbers.
-use Rattle.std.proofs.Common.{◌≡◌, ◌≢◌, ◌≤◌, ◌<◌, ◌+◌, ◌-◌, ◌*◌, ◌^◌, ◌/◌, ◌==◌, ◌&&◌, ◌||◌, ◌++◌, ◌∷◌, [], ◌⊎◌, ◌∙◌, ℕ, zero, suc, Bool, not, true, false, List, Option, Some, None, ap, sym, refl, subst, inl, inr, cond, if◌then◌else◌, find, filter, flat_map, length, map, take, unwrap_or, arith}
+use Rattle.std.proofs.Common.{◌≡◌, ◌≢◌, ◌≤◌, ◌<◌, ◌+◌, ◌-◌, ◌*◌, ◌^◌, ◌/◌, ◌==◌, ◌&&◌, ◌||◌, ◌++◌, ◌∷◌, [], ◌⊎◌, ◌∙◌, ℕ, zero, suc, Bool, not, true, false, List, Some, None, ap, sym, refl, subst, inl, inr, cond, if◌then◌else◌, find, filter, flat_map, length, map, unwrap_or, arith}
 use Rattle.std.specs.List.{range_with_len, list_any}
 use Rattle.std.specs.Int.{from_bool}
-use Rattle.std.proofs.lemmas.Bool.{cases_eq, eqb-true, false≢true}
+use Rattle.std.proofs.lemmas.Bool.{cases_eq, false≢true}
 use Rattle.std.proofs.lemmas.List.{length-append, length-map, map-append}
 use Rattle.std.proofs.lemmas.List.Elements.{filter-append}
 use Rattle.std.proofs.lemmas.List.FromFn.{length-range_with_len}
@@ -10,14 +10,14 @@ use Rattle.std.proofs.lemmas.List.Folds.{list_any-append}
 use Rattle.sv_form.specs.declared.geometry.Geometry.{Geometry}
 use Rattle.sv_form.specs.declared.owners.Mounted.{Mounted}
 use Rattle.sv_form.specs.declared.place.Place.{Place}
-use Rattle.sv_form.specs.Geometry.{IsGeometry, IsPlace, inode_count, inode_place}
+use Rattle.sv_form.specs.Geometry.{IsGeometry, inode_count, inode_place}
 use Rattle.sv_form.specs.Image.{block_of, geometry_of, inode_of}
 use Rattle.sv_form.specs.Owners.{owner_of}
 use Rattle.sv_check.specs.declared.met.Met.{Met}
 use Rattle.sv_check.specs.Chain.{Chained, number, list, chain, chain_flaw, chained, chained_number, first_broken, lost_flaw, reads_list, walked}
 use Rattle.sv_check.specs.InodeList.{is_free, used_flags, used_inodes, inode_numbers}
 use Rattle.sv_check.specs.Progress.{met_at}
-use Rattle.sv_check.specs.Sound.{IsMountedFrom, IsSound, line_owner, owns}
+use Rattle.sv_check.specs.Sound.{IsMountedFrom, line_owner, owns}
 use Rattle.sv_check.specs.Walk.{Reached, is_among, is_data_block, is_new, met_of, reached, walk, with_met}
 use Rattle.sv_check.proofs.InodeReads.{and_first, and_second}
 use Rattle.sv_check.proofs.InodeSteps.{none_in_range, range_suc}

@@ -60,3 +60,16 @@ mod WholeEntries
 mod WholeNodes
 mod WholeTree
 mod WholeWalk
+mod MadeCache
+mod MadeDirectories
+mod MadeInodes
+mod MadeChain
+mod MadeChains
+mod MadeLengths
+mod MadeLists
+mod MadeParts
+mod MadeSized
+mod MadeSound
+mod MadeSuper
+mod MadeWalk
+mod SpelledNumbers

@@ -11,7 +11,7 @@ use Rattle.sv_form.specs.declared.geometry.Geometry.{Geometry}
 use Rattle.sv_form.proofs.OwnerLemmas.{range_more}
 use Rattle.sv_check.specs.MadeBlocks.{made_block, made_blocks}
 
-blocks_more : (g : Geometry) (n : ℕ) → made_blocks g (n + 1) ≡ made_blocks g n ++ made_block g n
+pub blocks_more : (g : Geometry) (n : ℕ) → made_blocks g (n + 1) ≡ made_blocks g n ++ made_block g n
 blocks_more g n =
     let at : 0 + n ≡ n = omega arith in
     ap (λ (q : List ℕ). flat_map (made_block g) q) (range_more 0 n ∙ ap (λ (q : ℕ). range_with_len 0 n ++ q ∷ []) at) ∙ sym (flat_map_more (made_block g) [] (range_with_len 0 n) n)

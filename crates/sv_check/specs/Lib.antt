@@ -12,6 +12,8 @@ pub mod InodeList
 pub mod Links
 pub mod Loaded
 pub mod MadeBlocks
+pub mod MadeRoot
+pub mod MadeSizes
 pub mod Mkfs
 pub mod Pages
 pub mod PastSize

@@ -5,7 +5,8 @@
 //! - `read_block` and `read_inode` read one block, and one inode, of an image whose sizes are known.
 //! - `file_size` and `read_pages` find one file of a sound image, and `free_count` and `used_count` count.
 //! - `load` reads the tree of a sound image into a file system of `sv_plain`.
-//! - `mkfs` makes an image anew, with a root and nothing in it, or says in `MakeFault` why not.
+//! - `mkfs` makes an image anew, with a root and nothing in it, or says in `MakeFault` why not. What it makes is sound, and a
+//!   law says so of each pair of numbers; `can_be_made` says which numbers have an image.
 //! - `CheckFault` is a refusal with its number and place, a failure of the disk, or want of memory.
 //! - All passes of the check stand inside the crate.
 #![tactic(auto)]
@@ -40,7 +41,8 @@ pub use counts::{free_count, used_count};
 pub use fault::CheckFault;
 pub use file::{file_size, read_pages};
 pub use loading::{LoadFault, load};
-pub use making::{MakeFault, mkfs};
+pub use made_lists::can_be_made;
+pub use making::{MakeFault, made_images_are_sound, made_images_have_their_sizes, mkfs};
 pub use pages::{PageBlock, next_block};
 pub use sizes::read_sizes;
 pub use sv_form::{LineRange, Mounted, Owners};

@@ -1,10 +1,27 @@
 // The sizes of an image made anew, and its lists of what is free.
-ghost use Rattle.std.specs.Prelude.{◌≡◌, ◌≤◌, ◌+◌, IfSome, IfNone};
+ghost use Rattle.std.specs.Prelude.{◌≡◌, ◌≤◌, ◌+◌, ◌↔◌, IfSome, IfNone, IsTrue};
 ghost use Rattle.sv_form.specs.Geometry.{IsGeometry};
-ghost use Rattle.sv_check.specs.Mkfs.{CanBeMade, free_cache, free_list, inode_cache, link_to, made_geometry};
+ghost use Rattle.sv_check.specs.Mkfs.{CanBeMade, first_data_for, free_cache, free_list, inode_cache, link_to, made_geometry};
 
 use arrayvec::ArrayVec;
 use sv_form::Geometry;
+
+/// Whether an image may have so many blocks and so many inodes: 4 to 65,536 blocks and 2 to 65,520 inodes, where the inode list,
+/// which begins at block 2 and has 16 inodes a block, leaves a block for data.
+pub fn can_be_made(blocks: u32, inodes: u32) -> bool
+    ensures { IsTrue result ↔ CanBeMade blocks inodes }
+{
+    let few = (4..=65_536).contains(&blocks) && (2..=65_520).contains(&inodes);
+    few && first_data_for(inodes) < blocks
+}
+
+// The first data block of an image for so many inodes.
+fn first_data_for(inodes: u32) -> u32
+    requires { inodes ≤ 65520 }
+    ensures { result ≡ first_data_for inodes }
+{
+    2 + (inodes + 15) / 16
+}
 
 /// The sizes of an image of so many blocks for so many inodes.
 pub fn made_geometry(blocks: u32, inodes: u32) -> Option<Geometry>
@@ -12,26 +29,13 @@ pub fn made_geometry(blocks: u32, inodes: u32) -> Option<Geometry>
     ensures sizes { IfSome result (λ g. IsGeometry g) }
     ensures none { IfNone result (CanBeMade blocks inodes → ⊥) }
 {
-    if blocks < 4 {
-        return None;
-    }
-    if blocks > 65_536 {
-        return None;
-    }
-    if inodes < 2 {
-        return None;
-    }
-    if inodes > 65_520 {
-        return None;
-    }
-    let first_data = 2 + (inodes + 15) / 16;
-    if first_data >= blocks {
+    if !can_be_made(blocks, inodes) {
         return None;
     }
     Some(Geometry {
         block_size: 1024,
         blocks,
-        first_data,
+        first_data: first_data_for(inodes),
     })
 }
 

@@ -3,6 +3,8 @@ ghost use Rattle.std.specs.Prelude.{◌≡◌, ◌≤◌, ◌*◌, ◌↔◌, le
 ghost use Rattle.sv_dev.specs.Causes.{HasCause, Rose, counted};
 ghost use Rattle.sv_form.specs.Geometry.{IsGeometry};
 ghost use Rattle.sv_check.specs.MadeBlocks.{FitsOn, SaysWhy, made_blocks, made_image};
+ghost use Rattle.sv_check.specs.MadeSizes.{AreSound, HaveTheirBlocks, HaveTheirRoot, HaveTheirSizes};
+ghost use Rattle.sv_check.specs.Sound.{IsSound};
 ghost use Rattle.sv_check.specs.declared.making.MakeFault.TheVariants.{Limits};
 
 use crate::made_blocks::made_block;
@@ -25,6 +27,7 @@ pub enum MakeFault {
 /// block is written once. After a fault the disk has any bytes; where the numbers are refused it is not asked.
 pub fn mkfs<D: Disk>(disk: &mut D, blocks: u32, inodes: u32) -> Result<(), MakeFault>
     ensures made { OnOk result (D.content disk.new ≡ made_image blocks inodes) }
+    ensures sound { OnOk result (IsSound (D.content disk.new)) }
     ensures fits { OnOk result (FitsOn (D.content disk.old) blocks inodes) }
     ensures limits { IsErrOf result Limits ↔ (FitsOn (D.content disk.old) blocks inodes → ⊥) }
     ensures err { IfErr result (SaysWhy (FitsOn (D.content disk.old) blocks inodes → ⊥) (Rose (D.faults disk.old) (D.faults disk.new))) }
@@ -45,6 +48,19 @@ pub fn mkfs<D: Disk>(disk: &mut D, blocks: u32, inodes: u32) -> Result<(), MakeF
     };
     Ok(())
 }
+
+/// The first three conditions of a sound image hold of each image that is made, and its sizes are those that were asked.
+/// What stands in each of its blocks is what is made for that block.
+pub fn made_images_have_their_sizes()
+    ensures sizes { HaveTheirSizes }
+    ensures blocks { HaveTheirBlocks }
+{}
+
+/// Each image that is made is sound. Its inode list has a root with one page, and nothing else.
+pub fn made_images_are_sound()
+    ensures sound { AreSound }
+    ensures root { HaveTheirRoot }
+{}
 
 // Writes each block of the image.
 fn write_blocks<D: Disk>(disk: &mut D, sizes: &Geometry) -> Result<(), Failed>

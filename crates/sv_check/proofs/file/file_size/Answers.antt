@@ -1,9 +1,9 @@
-use Rattle.std.proofs.Common.{◌≡◌, ◌∙◌, ◌+◌, ◌<◌, ℕ, List, ap, arith, refl, subst, sym, true}
+use Rattle.std.proofs.Common.{◌≡◌, ◌∙◌, ℕ, List, ap, arith, refl, subst, sym, true}
 use Rattle.sv_form.specs.declared.geometry.Geometry.{Geometry}
 use Rattle.sv_form.specs.declared.place.Place.{Place}
 use Rattle.sv_form.specs.Geometry.{IsNumber, inode_place}
-use Rattle.sv_form.specs.Image.{block_of, geometry_of, inode_of}
-use Rattle.sv_check.specs.FilePages.{IsFileSize, ShowsFile}
+use Rattle.sv_form.specs.Image.{block_of, inode_of}
+use Rattle.sv_check.specs.FilePages.{ShowsFile}
 use Rattle.sv_check.specs.InodeList.{reads_inode}
 use Rattle.sv_check.proofs.FileTexts.{file_size_is}
 use Rattle.sv_check.proofs.InodeSteps.{all_read}

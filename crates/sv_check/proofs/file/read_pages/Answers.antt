@@ -1,10 +1,10 @@
-use Rattle.std.proofs.Common.{◌≡◌, ◌+◌, ◌<◌, ◌∙◌, [], ℕ, List, None, ap, arith, refl, sym, subst}
+use Rattle.std.proofs.Common.{◌≡◌, ◌∙◌, ℕ, List, None, ap, arith, refl, sym, subst}
 use Rattle.sv_form.specs.declared.geometry.Geometry.{Geometry}
 use Rattle.sv_form.specs.declared.place.Place.{Place}
 use Rattle.sv_form.specs.Geometry.{inode_place}
 use Rattle.sv_form.specs.Image.{block_of, inode_of}
 use Rattle.sv_check.specs.declared.pages.PageBlock.{PageBlock}
-use Rattle.sv_check.specs.FilePages.{AreInData, AreInOrder, file_pages}
+use Rattle.sv_check.specs.FilePages.{AreInData, AreInOrder}
 use Rattle.sv_check.specs.Progress.{progress_of}
 use Rattle.sv_check.specs.Walk.{first_bad, met_of, nothing_met, reached}
 use Rattle.sv_check.proofs.FileBlocks.{are_in_data}
