@@ -15,16 +15,7 @@ trap 'rm -rf "$work"' EXIT
 "$top/svfs" check "$top/crates/svfs/data/E" >/dev/null
 program=$top/crates/svfs/out/svfs
 python3 "$top/bench/images.py" "$work"
-
-timed() { # name, words: the least of five runs, in seconds
-    local name=$1 best=; shift
-    for _ in 1 2 3 4 5; do
-        local start end
-        start=$(date +%s%N); "$@" >"$work/out" 2>&1 || true; end=$(date +%s%N)
-        [ -n "$best" ] && [ $((end - start)) -ge "$best" ] || best=$((end - start))
-    done
-    printf '%-22s %6d.%03d ms   %s\n' "$name" $((best / 1000000)) $((best / 1000 % 1000)) "$(tail -1 "$work/out")"
-}
+. "$top/bench/timed.sh"
 
 for image in files wide deep named empty unread; do
     timed "svfs $image" "$program" check "$work/$image"

@@ -38,6 +38,22 @@ row 8 '' 'svfs: journal line 3 refused' replay "$work/image" "$work/illegal"
 row 8 '' 'svfs: journal line 1 refused' replay "$work/image" /dev/null
 row 5 '' 'svfs: file fault' replay "$work/image" "$work/none"
 
+row 0 '' '' mkfs "$work/made" 64 32
+row 0 'ok blocks 64 free 59 inodes 32 used 1' '' check "$work/made"
+row 9 '' 'svfs: no such file' cat "$work/made" 2
+row 0 'inode 2 d 755 links 2 size 32 pages 1' '' replay "$work/made" "$work/journal"
+if [ "$(od -An -v -tx1 -j512 -N20 "$work/made" | tr -d ' \n')" != 5356354602000400400000000a001e000e000000 ]; then
+  echo "checks/program.sh: the superblock that was made begins otherwise" >&2; failed=1
+fi
+row 0 '' '' mkfs "$work/made" 4 2
+row 0 'ok blocks 4 free 0 inodes 16 used 1' '' check "$work/made"
+row 1 '' 'svfs: words not understood' mkfs "$work/unmade" 3 2
+row 1 '' 'svfs: words not understood' mkfs "$work/unmade" 8 81
+row 1 '' 'svfs: words not understood' mkfs "$work/unmade" 65537 2
+if [ -e "$work/unmade" ]; then echo "checks/program.sh: an image of refused words was made" >&2; failed=1; fi
+row 5 '' 'svfs: file fault' mkfs "$work" 4 2
+row 5 '' 'svfs: file fault' mkfs "$work/none/made" 4 2
+
 "$program" cat "$work/image" 3 >/dev/full 2>"$work/note"
 if [ $? != 6 ] || [ "$(cat "$work/note")" != 'svfs: write fault' ]; then
   echo "checks/program.sh: a full device is not status 6" >&2; failed=1

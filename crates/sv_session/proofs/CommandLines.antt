@@ -1,10 +1,12 @@
--- The command lines of two and of three words.
-use Rattle.std.proofs.Common.{◌≡◌, ◌<◌, ◌≤◌, ℕ, List, [], ◌∷◌, length, get_or, map, false, not, arith, sym, ◌∙◌, ap, String, string_bytes, Global, codes, decimal}
+-- The command lines of two, three and four words.
+use Rattle.std.proofs.Common.{◌≡◌, ◌<◌, ◌≤◌, ◌^◌, ℕ, List, [], ◌∷◌, length, get_or, map, false, not, arith, sym, ◌∙◌, ap, String, string_bytes, Global, codes, decimal, subst}
 use Rattle.std.specs.Str.{bytes_eq}
 use Rattle.std.proofs.lemmas.Bool.{not-false}
 use Rattle.std.proofs.lemmas.Slice.Eq.{bytes_eq-Decides}
+use Rattle.std.proofs.lemmas.Fmt.{decimal_injective}
+use Rattle.sv_check.specs.Mkfs.{CanBeMade}
 
--- a list of two, and one of three, is its elements
+-- a list of two, one of three, and one of four, is its elements
 two : {X : Type 0} (xs : List X) (a b : X) → 2 ≤ length xs → length xs < 3 → a ≡ get_or xs 0 a → b ≡ get_or xs 1 b → xs ≡ a ∷ b ∷ []
 two [] a b least most first second = absurd (omega arith)
 two (x ∷ []) a b least most first second = absurd (omega arith)
@@ -18,6 +20,15 @@ three (x ∷ []) a b c least most first second third = absurd (omega arith)
 three (x ∷ y ∷ []) a b c least most first second third = absurd (omega arith)
 three (x ∷ y ∷ z ∷ []) a b c least most first second third = cc
 three (x ∷ y ∷ z ∷ w ∷ more) a b c least most first second third = absurd (omega arith)
+
+four : {X : Type 0} (xs : List X) (a b c d : X) → 4 ≤ length xs → length xs < 5 → a ≡ get_or xs 0 a → b ≡ get_or xs 1 b → c ≡ get_or xs 2 c → d ≡ get_or xs 3 d
+    → xs ≡ a ∷ b ∷ c ∷ d ∷ []
+four [] a b c d least most first second third fourth = absurd (omega arith)
+four (x ∷ []) a b c d least most first second third fourth = absurd (omega arith)
+four (x ∷ y ∷ []) a b c d least most first second third fourth = absurd (omega arith)
+four (x ∷ y ∷ z ∷ []) a b c d least most first second third fourth = absurd (omega arith)
+four (x ∷ y ∷ z ∷ w ∷ []) a b c d least most first second third fourth = cc
+four (x ∷ y ∷ z ∷ w ∷ v ∷ more) a b c d least most first second third fourth = absurd (omega arith)
 
 -- the texts of three words
 pub three_words : (words : List (String Global)) (a b c : String Global) → 3 ≤ length words → length words < 4 → a ≡ get_or words 0 a → b ≡ get_or words 1 b → c ≡ get_or words 2 c
@@ -58,3 +69,31 @@ replay_words words a b c least most first second third command image journal is_
     texts ∙ ap (λ (w : List ℕ). w ∷ string_bytes b ∷ string_bytes c ∷ []) (sym is_command ∙ same)
     ∙ ap (λ (w : List ℕ). codes "replay" ∷ w ∷ string_bytes c ∷ []) (sym is_image)
     ∙ ap (λ (w : List ℕ). codes "replay" ∷ image ∷ w ∷ []) (sym is_journal)
+
+-- ---- a command of four words
+
+module _ (words : List (String Global)) (a b c d : String Global) (least : 4 ≤ length words) (most : length words < 5) (first : a ≡ get_or words 0 a) (second : b ≡ get_or words 1 b)
+    (third : c ≡ get_or words 2 c) (fourth : d ≡ get_or words 3 d) (blocks_word inodes_word : List ℕ) (m n : ℕ) (is_blocks : blocks_word ≡ string_bytes c)
+    (is_inodes : inodes_word ≡ string_bytes d) (blocks_value : blocks_word ≡ decimal m) (inodes_value : inodes_word ≡ decimal n) where
+  -- the texts of the words
+  numbered : map string_bytes words ≡ string_bytes a ∷ string_bytes b ∷ decimal m ∷ decimal n ∷ []
+  numbered =
+      ap (map string_bytes) (four words a b c d least most first second third fourth)
+      ∙ ap (λ (w : List ℕ). string_bytes a ∷ string_bytes b ∷ w ∷ string_bytes d ∷ []) (sym is_blocks ∙ blocks_value)
+      ∙ ap (λ (w : List ℕ). string_bytes a ∷ string_bytes b ∷ decimal m ∷ w ∷ []) (sym is_inodes ∙ inodes_value)
+
+  -- the words are a `mkfs` of that image and these numbers
+  pub mkfs_words : (command image : List ℕ) → command ≡ string_bytes a → false ≡ not (bytes_eq command (codes "mkfs")) → image ≡ string_bytes b
+      → map string_bytes words ≡ codes "mkfs" ∷ image ∷ decimal m ∷ decimal n ∷ []
+  mkfs_words command image is_command is_mkfs is_image =
+      numbered ∙ ap (λ (w : List ℕ). w ∷ string_bytes b ∷ decimal m ∷ decimal n ∷ []) (sym is_command ∙ same_text command (codes "mkfs") is_mkfs)
+      ∙ ap (λ (w : List ℕ). codes "mkfs" ∷ w ∷ decimal m ∷ decimal n ∷ []) (sym is_image)
+
+  -- where the words are a `mkfs` at all, its numbers are these
+  pub mkfs_numbers : (m < 2 ^ 32) → (n < 2 ^ 32) → (image : List ℕ) (blocks inodes : ℕ) → CanBeMade blocks inodes
+      → map string_bytes words ≡ codes "mkfs" ∷ image ∷ decimal blocks ∷ decimal inodes ∷ [] → CanBeMade m n
+  mkfs_numbers small few image blocks inodes can is =
+      let texts = sym numbered ∙ is in
+      let same : m ≡ blocks = decimal_injective m blocks (omega arith) (omega (arith, can.most_blocks)) (ap (λ (ws : List (List ℕ)). get_or ws 2 []) texts) in
+      let too : n ≡ inodes = decimal_injective n inodes (omega arith) (omega (arith, can.most_inodes)) (ap (λ (ws : List (List ℕ)). get_or ws 3 []) texts) in
+      subst (λ (k : ℕ). CanBeMade k n) (sym same) (subst (λ (k : ℕ). CanBeMade blocks k) (sym too) can)

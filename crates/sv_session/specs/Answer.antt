@@ -6,7 +6,8 @@ use Rattle.sv_check.specs.FilePages.{file_of, text_of}
 use Rattle.sv_check.specs.Sound.{Flaw, IsSound}
 use Rattle.sv_session.specs.declared.stop.Stop.{Stop}
 use Rattle.sv_session.specs.declared.stop.Stop.TheVariants.{Words, Refused, DeviceFault, FileFault, WriteFault, NoMemory, JournalRefused, NoSuchFile}
-use Rattle.sv_session.specs.Command.{Command, cat, check, replay}
+use Rattle.sv_session.specs.Command.{Command, cat, check, mkfs, replay}
+use Rattle.sv_session.specs.Making.{LeavesUnmade, Makes, StopsMaking}
 use Rattle.sv_session.specs.Replay.{LeavesListing, Lists, RefusesLine, StopsReplay}
 use Rattle.sv_session.specs.SoundLine.{sound_line}
 use Rattle.sv_session.specs.Stop.{status_of, line_of}
@@ -106,10 +107,24 @@ pub record ReplayAnswer (images texts : Option (List ℕ → Option (List ℕ)))
       device (file ⊎ source) write stop
       × LeavesListing (OnImage images name) texts journal old new stop × noted (line_of stop)
 
+-- ---- `mkfs`
+
+-- `mkfs` ended with that status: the image was made, or a stop is told, with its reason and its line.
+pub record MkfsAnswer (old new : Option (List ℕ → Option (List ℕ))) (name : List ℕ) (blocks inodes : ℕ) (device file : Type 0)
+    (noted : List ℕ → Type 0) (status : ℕ) : Type 0 where
+  pub done : status ≡ 0 → Makes old new name blocks inodes
+  pub stopped : status ≢ 0 → (stop : Stop) × (status ≡ status_of stop) × StopsMaking device file stop
+      × LeavesUnmade old new name blocks inodes stop × noted (line_of stop)
+
 -- ---- any command
 
--- what a command answers
-abbrev pub Answers : (images texts : Option (List ℕ → Option (List ℕ))) → (device file source write : Type 0) → (old new : Option (List ℕ)) → (List ℕ → Type 0) → ℕ → Command → Type 0
-Answers images texts device file source write old new noted status (cat image n) = CatAnswer images image n device file write old new noted status
-Answers images texts device file source write old new noted status (check image) = CheckAnswer images image device file write old new noted status
-Answers images texts device file source write old new noted status (replay image journal) = ReplayAnswer images texts image journal device file source write old new noted status
+-- What a command answers, and which images it leaves. `mkfs` alone changes one, and writes nothing to the sink.
+abbrev pub Answers : (images left texts : Option (List ℕ → Option (List ℕ))) → (device file source write : Type 0) → (old new : Option (List ℕ)) → (List ℕ → Type 0) → ℕ → Command → Type 0
+Answers images left texts device file source write old new noted status (cat image n) =
+    (left ≡ images) × CatAnswer images image n device file write old new noted status
+Answers images left texts device file source write old new noted status (check image) =
+    (left ≡ images) × CheckAnswer images image device file write old new noted status
+Answers images left texts device file source write old new noted status (mkfs image blocks inodes) =
+    (new ≡ old) × MkfsAnswer images left image blocks inodes device file noted status
+Answers images left texts device file source write old new noted status (replay image journal) =
+    (left ≡ images) × ReplayAnswer images texts image journal device file source write old new noted status

@@ -1,5 +1,6 @@
 pub mod Answer
 pub mod Command
+pub mod Making
 pub mod Pages
 pub mod Replay
 pub mod SoundLine

@@ -1,6 +1,5 @@
 -- The line that `check` writes on a sound image.
 use Rattle.std.specs.Prelude.{ℕ, List, ◌++◌, length, codes, decimal}
-use Rattle.sv_form.specs.declared.geometry.Geometry.{Geometry}
 use Rattle.sv_form.specs.Geometry.{inode_count}
 use Rattle.sv_form.specs.Image.{geometry_of}
 use Rattle.sv_check.specs.Chain.{chained}

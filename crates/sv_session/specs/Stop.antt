@@ -8,6 +8,8 @@ use Rattle.sv_check.specs.declared.fault.CheckFault.{CheckFault}
 use Rattle.sv_check.specs.declared.fault.CheckFault.TheVariants as check
 use Rattle.sv_check.specs.declared.loading.LoadFault.{LoadFault}
 use Rattle.sv_check.specs.declared.loading.LoadFault.TheVariants as load
+use Rattle.sv_check.specs.declared.making.MakeFault.{MakeFault}
+use Rattle.sv_check.specs.declared.making.MakeFault.TheVariants as make
 use Rattle.sv_journal.specs.declared.gathering.GatherFault.{GatherFault}
 use Rattle.sv_journal.specs.declared.gathering.GatherFault.TheVariants as gather
 use Rattle.sv_journal.specs.declared.journal_fault.JournalFault.{JournalFault}
@@ -71,7 +73,7 @@ abbrev pub Noted : Option (List ℕ) → Option (List ℕ) → ℕ → ℕ → L
 Noted old new faults_before faults line =
     (n : ℕ) × (n ≤ length line) × (new ≡ grown old (take n line)) × ((n ≡ length line) ⊎ Rose faults_before faults)
 
--- the stop that a check's answer, a host's, and those of a load, a gathering and a reading lead to
+-- the stop that a check's answer, a host's, and those of a load, a making, a gathering and a reading lead to
 abbrev pub stop_of_check : CheckFault → Stop
 stop_of_check (check.Refused number place) = Refused number place
 stop_of_check check.Fault = DeviceFault
@@ -84,6 +86,11 @@ stop_of_host host.NoMemory = NoMemory
 abbrev pub stop_of_load : LoadFault → Stop
 stop_of_load load.Fault = DeviceFault
 stop_of_load load.NoMemory = NoMemory
+
+abbrev pub stop_of_make : MakeFault → Stop
+stop_of_make make.Limits = Words
+stop_of_make make.Fault = DeviceFault
+stop_of_make make.NoMemory = NoMemory
 
 abbrev pub stop_of_gather : GatherFault → Stop
 stop_of_gather gather.Fault = FileFault

@@ -5,6 +5,9 @@ mod cat;
 mod check;
 mod find;
 mod journal;
+mod making;
+#[cfg(test)]
+mod mkfs_tests;
 mod pages;
 mod replay;
 #[cfg(test)]
@@ -19,6 +22,7 @@ mod words;
 
 pub use cat::cat_image;
 pub use check::check_image;
+pub use making::mkfs_image;
 pub use replay::replay_image;
 pub use stop::{Stop, tell};
 pub use top::svfs;

@@ -1,5 +1,6 @@
 // Journals over a new image, by the program over the forms in memory.
-use crate::svfs;
+use crate::tests;
+use crate::tests::made_images::new_image;
 use std::alloc::{AllocError, Global};
 use std::fs::File;
 use std::process::Abort;
@@ -7,7 +8,7 @@ use std::rt::Files;
 use std::sync::Wait;
 use std::test::Fail as Failure;
 use std::thread::Threads;
-use sv_dev::{Fail, MemHost, MemSink, NoWatch};
+use sv_dev::{Fail, MemHost};
 
 // What a run wrote that makes a directory and a file, writes, reads and looks at it.
 const WORKED: [&str; 29] = [
@@ -42,35 +43,6 @@ const WORKED: [&str; 29] = [
     "0 purge = done\n",
 ];
 
-// A new image of 64 blocks and 32 inodes: the root's page is block 4, the superblock's list is of the blocks 14 down to 5,
-// and block 14 has the list of the others.
-fn new_image(alloc: Global) -> Result<Vec<u8>, AllocError> {
-    let mut image = vec![in alloc; 0; 65_536]?;
-    put(&mut image, 512, b"SV5F\x02\0\x04\0\x40\0\0\0\x0a\0\x1e\0");
-    for k in 0..10u8 {
-        put(&mut image, 528 + 4 * usize::from(k), &[14 - k]);
-    }
-    for k in 0..30u8 {
-        put(&mut image, 728 + 2 * usize::from(k), &[32 - k]);
-    }
-    put(&mut image, 2_112, b"\xed\x41\x02\0\0\0\0\0\x20\0\0\0\x04");
-    put(&mut image, 4_096, b"\x02\0.");
-    put(&mut image, 4_112, b"\x02\0..");
-    put(&mut image, 14_336, b"\x32");
-    for k in 0..49u8 {
-        put(&mut image, 14_344 + 4 * usize::from(k), &[63 - k]);
-    }
-    Ok(image)
-}
-
-fn put(image: &mut Vec<u8>, at: usize, bytes: &[u8]) {
-    for (k, byte) in bytes.iter().enumerate() {
-        if let Some(place) = image.get_mut(at.saturating_add(k)) {
-            *place = *byte;
-        }
-    }
-}
-
 fn text_of(alloc: Global, lines: &[&str]) -> Result<Vec<u8>, AllocError> {
     let mut text = Vec::new(alloc);
     for line in lines {
@@ -103,18 +75,7 @@ fn answers<R: Files<File = File> + AllocGlobal + Threads + Wait + Abort>(
     out: &str,
     note: &str,
 ) -> Result<(), Failure> {
-    let alloc = rt.alloc();
-    let mut words = Vec::new(alloc);
-    for word in ["replay", "A", journal] {
-        words.push(String::from_str(alloc, word)?)?;
-    }
-    let mut shown = MemSink::new(Vec::new(alloc));
-    let mut noted = MemSink::new(Vec::new(alloc));
-    let answered = svfs(rt, alloc, &words, host, &NoWatch, &mut shown, &mut noted);
-    assert_eq!(rt; answered, status);
-    assert_eq!(rt; shown.written(), out.as_bytes());
-    assert_eq!(rt; noted.written(), note.as_bytes());
-    Ok(())
+    tests::answers(rt, host, &["replay", "A", journal], status, out, note)
 }
 
 #[test]

@@ -5,7 +5,7 @@ ghost use Rattle.sv_session.specs.Stop.{word_of, refusal_of, journal_refusal_of,
 use arrayvec::ArrayString;
 use itoa::Buffer;
 use std::alloc::AllocError;
-use sv_check::{CheckFault, LoadFault};
+use sv_check::{CheckFault, LoadFault, MakeFault};
 use sv_dev::{HostFault, Sink};
 use sv_journal::{GatherFault, JournalFault};
 
@@ -172,6 +172,21 @@ impl From<LoadFault> for Stop {
         match fault {
             LoadFault::Fault => Stop::DeviceFault,
             LoadFault::NoMemory => Stop::NoMemory,
+        }
+    }
+}
+
+impl From<MakeFault> for Stop {
+    ghost use Rattle.std.specs.Prelude.{◌≡◌};
+    ghost use Rattle.sv_session.specs.Stop.{stop_of_make};
+
+    ghost from_gives = { λ fault stop. stop ≡ stop_of_make fault };
+
+    fn from(fault: MakeFault) -> Self {
+        match fault {
+            MakeFault::Limits => Stop::Words,
+            MakeFault::Fault => Stop::DeviceFault,
+            MakeFault::NoMemory => Stop::NoMemory,
         }
     }
 }

@@ -1,7 +1,7 @@
 // The program over the forms in memory.
 ghost use Rattle.std.specs.Prelude.{◌+◌, ◌<◌, ◌^◌, length};
 
-mod made_images;
+pub(crate) mod made_images;
 
 use crate::cat::cat_disk;
 use crate::check::check_disk;
@@ -65,6 +65,29 @@ fn run<R: Files<File = File> + AllocGlobal + Threads + Wait>(
     let mut note = MemSink::new(Vec::new(alloc));
     let status = svfs(rt, alloc, &texts, &mut host, &NoWatch, &mut out, &mut note);
     Ok(Done { status, out, note })
+}
+
+// The program over this host answers these words with this status, these bytes and this line.
+pub(crate) fn answers<R: Files<File = File> + AllocGlobal + Threads + Wait + Abort>(
+    rt: &R,
+    host: &mut MemHost,
+    words: &[&str],
+    status: u8,
+    out: &str,
+    note: &str,
+) -> Result<(), Failure> {
+    let alloc = rt.alloc();
+    let mut texts = Vec::new(alloc);
+    for word in words {
+        texts.push(String::from_str(alloc, word)?)?;
+    }
+    let mut shown = MemSink::new(Vec::new(alloc));
+    let mut noted = MemSink::new(Vec::new(alloc));
+    let answered = svfs(rt, alloc, &texts, host, &NoWatch, &mut shown, &mut noted);
+    assert_eq!(rt; answered, status);
+    assert_eq!(rt; shown.written(), out.as_bytes());
+    assert_eq!(rt; noted.written(), note.as_bytes());
+    Ok(())
 }
 
 // Bytes, and where in the image they stand in place of what stands there.

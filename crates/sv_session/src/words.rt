@@ -1,17 +1,33 @@
 // The words of the command line.
 ghost use Rattle.std.specs.Prelude.{◌≡◌, ◌≢◌, ◌<◌, ◌≤◌, ◌^◌, ◌↔◌, ℕ, List, map, length, slice_index, string_bytes, decimal, IsTrue, IfSome, IfNone};
-ghost use Rattle.sv_session.specs.Command.{Command, Asks, cat, check, replay};
+ghost use Rattle.sv_session.specs.Command.{Command, Asks, cat, check, mkfs, replay};
 ghost use Rattle.sv_session.specs.Words.{asked};
+
+use sv_check::can_be_made;
 
 /// What the words of the command line ask for.
 #[derive(Clone, Copy, Debug)]
 pub enum Request<'a> {
     /// Write the bytes of a regular file.
-    Cat { image: &'a str, inode: u32 },
+    Cat {
+        image: &'a str,
+        inode: u32,
+    },
     /// Write one line on a sound image.
-    Check { image: &'a str },
+    Check {
+        image: &'a str,
+    },
+    /// Make an image, of so many blocks and for so many inodes.
+    Mkfs {
+        image: &'a str,
+        blocks: u32,
+        inodes: u32,
+    },
     /// Write the listing that a journal over an image leads to.
-    Replay { image: &'a str, journal: &'a str },
+    Replay {
+        image: &'a str,
+        journal: &'a str,
+    },
 }
 
 /// Reads the words after the program's name. A number is decimal digits, without sign or leading zero.
@@ -20,6 +36,19 @@ pub fn read_words(words: &[String]) -> Option<Request<'_>>
     ensures none { IfNone result ((command : Command) → Asks (map string_bytes words.now) command → ⊥) }
 {
     match read_check(words) {
+        Some(request) => Some(request),
+        None => read_longer(words),
+    }
+}
+
+// One of the commands of more than two words.
+fn read_longer(words: &[String]) -> Option<Request<'_>>
+    ensures some { IfSome result (λ request. Asks (map string_bytes words.now) (asked request)) }
+    ensures no_cat { IfNone result ((image : List ℕ) (inode : ℕ) → Asks (map string_bytes words.now) (cat image inode) → ⊥) }
+    ensures no_mkfs { IfNone result ((image : List ℕ) (blocks inodes : ℕ) → Asks (map string_bytes words.now) (mkfs image blocks inodes) → ⊥) }
+    ensures no_replay { IfNone result ((image journal : List ℕ) → Asks (map string_bytes words.now) (replay image journal) → ⊥) }
+{
+    match read_mkfs(words) {
         Some(request) => Some(request),
         None => read_three(words),
     }
@@ -68,6 +97,29 @@ fn read_cat(words: &[String]) -> Option<Request<'_>>
     Some(Request::Cat {
         image: image.as_str(),
         inode,
+    })
+}
+
+// `mkfs IMAGE BLOCKS INODES`.
+fn read_mkfs(words: &[String]) -> Option<Request<'_>>
+    ensures some { IfSome result (λ request. Asks (map string_bytes words.now) (asked request)) }
+    ensures none { IfNone result ((image : List ℕ) (blocks inodes : ℕ) → Asks (map string_bytes words.now) (mkfs image blocks inodes) → ⊥) }
+{
+    let [command, image, blocks, inodes] = words else {
+        return None;
+    };
+    if command.as_str() != "mkfs" {
+        return None;
+    }
+    let blocks = number(blocks.as_str())?;
+    let inodes = number(inodes.as_str())?;
+    if !can_be_made(blocks, inodes) {
+        return None;
+    }
+    Some(Request::Mkfs {
+        image: image.as_str(),
+        blocks,
+        inodes,
     })
 }
 

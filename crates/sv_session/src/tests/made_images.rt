@@ -10,7 +10,7 @@ use std::thread::Threads;
 
 // The first data block is 4, in which the root's page stands. The free blocks are 5 to 63, the chain's second list stands in
 // block 14, and inodes 32 down to 3 are cached.
-fn new_image(alloc: Global) -> Result<Vec<u8>, AllocError> {
+pub(crate) fn new_image(alloc: Global) -> Result<Vec<u8>, AllocError> {
     let mut image = vec![in alloc; 0; 65_536]?;
     put_short(&mut image, 512, b"SV5F\x02\0\x04\0\x40\0\0\0\x0a\0\x1e\0");
     put_short(

@@ -1,8 +1,6 @@
 use Rattle.std.proofs.Common.{◌≡◌, ◌∙◌, ℕ, List, ap}
 use Rattle.std.proofs.lemmas.Result.{on_err_weaker, on_ok_weaker}
-use Rattle.sv_plain.specs.Front.{file_bytes}
-use Rattle.sv_check.specs.declared.pages.PageBlock.{PageBlock}
-use Rattle.sv_check.specs.FilePages.{block_at, file_pages}
+use Rattle.sv_check.specs.FilePages.{file_pages}
 use Rattle.sv_session.proofs.FileShown.{IsFound, found, leaves_front, shows, shows_front}
 use Rattle.sv_session.proofs.cat.cat_sound.Goals as goal
 

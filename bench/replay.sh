@@ -1,0 +1,20 @@
+#!/usr/bin/env bash
+# Times `svfs replay` of journals of 100 MB over an image of 64 MiB that `svfs mkfs` made. Run it at the top of the repository,
+# where the program is built: bench/replay.sh. It wants python3.
+#
+# looks    short lines: `stat`, `look` and `drop`
+# writes   long lines: 1,024 bytes are written over the same page again and again
+# none     no entry: what is left is the check and the load of the image
+set -eu
+top=$(cd "$(dirname "$0")/.." && pwd)
+work=$(mktemp -d)
+trap 'rm -rf "$work"' EXIT
+"$top/svfs" check "$top/crates/svfs/data/E" >/dev/null
+program=$top/crates/svfs/out/svfs
+. "$top/bench/timed.sh"
+"$program" mkfs "$work/image" 65536 20000
+
+for kind in looks writes none; do
+    python3 "$top/bench/journals.py" "$kind" >"$work/$kind"
+    timed "$kind, $(wc -l <"$work/$kind") lines" "$program" replay "$work/image" "$work/$kind"
+done
