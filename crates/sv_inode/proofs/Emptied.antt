@@ -2,7 +2,6 @@
 use Rattle.std.proofs.Common.{◌≡◌, ◌≤◌, ◌<◌, ◌+◌, ◌-◌, ◌*◌, ◌/◌, ◌++◌, ◌⊎◌, ℕ, Bool, true, false, List, length, get_or, nat_lt, Option, None, IsSome, is_some, cond, arith, refl, sym, ap, ◌∙◌, subst}
 use Rattle.std.specs.FinMap.{get-empty}
 use Rattle.std.specs.Ordering.{nat_cmp}
-use Rattle.std.specs.List.{All}
 use Rattle.std.proofs.lemmas.Bool.Decides.{nat_tests}
 use Rattle.sv_dev.specs.Causes.{last_count}
 use Rattle.sv_form.specs.Geometry.{IsGeometry, IsNumber, block_lines, inode_count, inode_place}
@@ -15,10 +14,10 @@ use Rattle.sv_store.specs.Held.{Apart, Both, Held, Lent, Origin, SameLines}
 use Rattle.sv_store.proofs.Holding.{is_some-Both}
 use Rattle.sv_bmap.specs.Tree.{page_block, path, places_of, slot_of}
 use Rattle.sv_bmap.proofs.Empty.{down-hole, empty-tree, thirteen, zeros}
-use Rattle.sv_super.specs.Core.{Core}
+use Rattle.sv_super.specs.Core.{Core, alone}
 use Rattle.sv_super.specs.Count.{times}
 use Rattle.sv_inode.specs.StandsFor.{IsDescribed, IsPageOf, StandsFor}
-use Rattle.sv_inode.specs.Truncate.{AreBlocks, CanFreeAll, FreesAll, HoldsInode, IsCut, IsCutFrom, less_all, names_of, only}
+use Rattle.sv_inode.specs.Truncate.{AreBlocks, CanFreeAll, FreesAll, HoldsInode, IsCutFrom, less_all, names_of, only}
 use Rattle.sv_inode.proofs.GivenBack.{only-at}
 
 hole-page : (g : Geometry) (h : Held) (page : ℕ) → page_block g h thirteen page ≡ 0
@@ -45,7 +44,7 @@ blocks-after {o} {o'} {h} {h'} {xs} {ys} p q e are =
     let W : List ℕ → Type 0 = λ z. AreBlocks o h z in
     subst P (sym p) (subst Q (sym q) (subst W (sym e) are))
 
-apart-only : {k h : Held} (xs : List ℕ) → Apart k h → Apart k (only xs h)
+pub apart-only : {k h : Held} (xs : List ℕ) → Apart k h → Apart k (only xs h)
 apart-only {k} {h} xs away = record { at = λ c l is. by c l is (nat_lt 0 (times c xs)) refl }
   where
     by : (c l : ℕ) → IsSome (k c l) → (t : Bool) → nat_lt 0 (times c xs) ≡ t → only xs h c l ≡ None
@@ -53,12 +52,17 @@ apart-only {k} {h} xs away = record { at = λ c l is. by c l is (nat_lt 0 (times
     by c l is false e = only-at xs h c l false e
 
 -- what was cut off can be freed
-pub can-free : {S : Type 0} {held : S → Held} {lent : S → Lent} {origin : S → Origin} {forced : S → Bool} {faults : S → ℕ} {o o' o'' : Origin} {h h' now mine mine' : Held} {blocks : List ℕ} (cuts : List (ℕ × S)) → IsCutFrom held lent origin forced faults o' h' now cuts → AreBlocks o h blocks → names_of cuts ≡ blocks → Apart mine h → o' ≡ o → o'' ≡ o → h' ≡ h → mine' ≡ mine → CanFreeAll held lent origin forced faults o'' h mine' cuts
+pub can-free : {S : Type 0} {held : S → Held} {lent : S → Lent} {origin : S → Origin} {forced : S → Bool} {faults : S → ℕ} {o o' o'' : Origin} {h h' now mine mine' : Held} {blocks : List ℕ} (cuts : List (ℕ × S)) → IsCutFrom held lent origin forced faults o' h' now cuts → AreBlocks o h blocks → names_of cuts ≡ blocks → Apart mine h → o' ≡ o → o'' ≡ o → h' ≡ h → mine' ≡ mine → CanFreeAll held lent origin forced o'' h mine' cuts
 can-free {S} {held} {lent} {origin} {forced} {faults} {o} {o'} {o''} {h} {h'} {now} {mine} {mine'} {blocks} cuts from are names away p r q m = record {
   are = blocks-after r refl names are;
-  each = (let P : Origin → Type 0 = λ z. All (IsCut held lent origin forced faults z h) cuts in
-      let Q : Held → Type 0 = λ z. All (IsCut held lent origin forced faults o' z) cuts in
-      subst P (p ∙ sym r) (subst Q q from.each));
+  each = λ i d low.
+      (let cut = from.each i d low in
+      record {
+        lines = record { at = λ c l. ap (λ q. is_some (q c l)) (cut.lines ∙ ap (alone (get_or cuts i d).0) q) };
+        away = cut.away;
+        home = cut.home ∙ (p ∙ sym r);
+        unforced = cut.unforced;
+      });
   apart = (let P : Held → Type 0 = λ z. Apart z (only (names_of cuts) h) in subst P (sym m) (apart-only (names_of cuts) away));
 }
 

@@ -1,10 +1,11 @@
 -- Blocks that are cut off a stake, merged back, or freed.
 use Rattle.std.proofs.Common.{◌≡◌, ◌≢◌, ◌≤◌, ◌<◌, ◌+◌, ◌++◌, ◌∷◌, ◌==◌, ◌||◌, get_or, ◌⊎◌, inl, inr, [], ℕ, zero, suc, Bool, true, false, cond, List, length, take, Option, Some, None, IsSome, is_some, nat_le, nat_lt, append-nil, append_assoc, length-append, refl, sym, ap, ◌∙◌, subst, arith}
-use Rattle.std.specs.List.{All}
+use Rattle.std.specs.List.{All, sum_by}
 use Rattle.std.proofs.Math.Path.{fun_ext}
 use Rattle.std.proofs.lemmas.Bool.{eqb-true, false≢true}
 use Rattle.std.proofs.lemmas.Bool.Decides.{nat_tests}
 use Rattle.std.proofs.lemmas.List.{map_push, take-map}
+use Rattle.std.proofs.lemmas.List.Sums.{sum_by-append}
 use Rattle.std.proofs.lemmas.List.Elements.{All-nil, All-push, All-same}
 use Rattle.sv_dev.specs.Causes.{Rose, counted, last_count}
 use Rattle.sv_form.specs.Geometry.{IsDataBlock, IsGeometry, block_lines}
@@ -16,9 +17,8 @@ use Rattle.sv_bmap.proofs.Parts.{popped}
 use Rattle.sv_super.specs.Calls.{Frees}
 use Rattle.sv_super.specs.Core.{Core, alone, less}
 use Rattle.sv_super.specs.Count.{one_if, times}
-use Rattle.sv_super.proofs.Writes.{holds-alone}
 use Rattle.sv_super.proofs.Counts.{apart, other, times-cons, times-first, times-nil, times-snoc}
-use Rattle.sv_inode.specs.Truncate.{AreBlocks, CanFreeAll, FreesAll, HoldsOther, IsCut, IsCutFrom, less_all, names_of, only}
+use Rattle.sv_inode.specs.Truncate.{AreBlocks, CanFreeAll, FreesAll, HoldsOther, IsCut, IsCutFrom, IsPart, less_all, names_of, only}
 
 some : (n : ℕ) → 0 < n → nat_lt 0 n ≡ true
 some n h = grind (nat_tests, arith)
@@ -118,7 +118,7 @@ pub record FreesUpTo {S : Type 0} (before now : ℕ) (old new : Core S) (all lef
 
 -- ---- places in a list
 
-times-take : (b i : ℕ) (xs : List ℕ) → times b (take i xs) ≤ times b xs
+pub times-take : (b i : ℕ) (xs : List ℕ) → times b (take i xs) ≤ times b xs
 times-take b zero xs = omega (arith, times-nil b)
 times-take b (suc i) [] = omega arith
 times-take b (suc i) (x ∷ xs) = omega (arith, times-take b i xs, times-cons b x (take i xs), times-cons b x xs)
@@ -207,6 +207,11 @@ cut-at {S} {held} {lent} {origin} {forced} {faults} {o} {h} ps xs ys x n m all f
     let P : ℕ × S → Type 0 = IsCut held lent origin forced faults o h in
     subst P (sym (popped ps xs ys x x n m front low next pop).1) (all m x (omega (arith, low, next)))
 
+pub part-at : {S : Type 0} {held : S → Held} {lent : S → Lent} {origin : S → Origin} {forced : S → Bool} {o : Origin} {h : Held} (ps xs ys : List (ℕ × S)) (x : ℕ × S) (n m : ℕ) → All (IsPart held lent origin forced o h) ps → xs ≡ take n ps → n ≤ length ps → n ≡ m + 1 → xs ≡ ys ++ x ∷ [] → IsPart held lent origin forced o h x
+part-at {S} {held} {lent} {origin} {forced} {o} {h} ps xs ys x n m all front low next pop =
+    let P : ℕ × S → Type 0 = IsPart held lent origin forced o h in
+    subst P (sym (popped ps xs ys x x n m front low next pop).1) (all m x (omega (arith, low, next)))
+
 pub names-push : {S : Type 0} (xs ys : List (ℕ × S)) (x : ℕ × S) → xs ≡ ys ++ x ∷ [] → names_of xs ≡ names_of ys ++ x.0 ∷ []
 names-push xs ys x pop = ap names_of pop ∙ map_push (λ q. q.0) ys x
 
@@ -287,15 +292,15 @@ later before was now more (inl rose) = by (le-or last_count now)
     by (inr low) = inl (omega (arith, more, rose, low))
 later before was now more (inr high) = inr (omega (arith, more, high))
 
-rose-now : (before was now : ℕ) → counted before 0 ≤ was → Rose (counted was 0) now → (before < now) ⊎ (last_count ≤ now)
-rose-now before was now first (inl rose) = by (le-or last_count now)
+rose-now : (before was met now : ℕ) → counted before 0 ≤ was → counted was 0 ≤ met → Rose met now → (before < now) ⊎ (last_count ≤ now)
+rose-now before was met now first up (inl rose) = by (le-or last_count now)
   where
     by : (last_count ≤ now) ⊎ (now < last_count) → (before < now) ⊎ (last_count ≤ now)
     by (inl high) = inr high
-    by (inr low) = inl (omega (arith, first, rose, low))
-rose-now before was now first (inr last) = inr (omega (arith, last))
+    by (inr low) = inl (omega (arith, first, up, rose, low))
+rose-now before was met now first up (inr last) = inr (omega (arith, last))
 
-pub freed-more : {S : Type 0} {before was met now : ℕ} {old mid new : Core S} {all xs ys : List ℕ} (b : ℕ) → FreesUpTo before was old mid all xs → counted before 0 ≤ was → met ≡ counted was 0 → met ≤ now → xs ≡ ys ++ b ∷ [] → Frees met now mid new b → FreesUpTo before now old new all ys
+pub freed-more : {S : Type 0} {before was met now : ℕ} {old mid new : Core S} {all xs ys : List ℕ} (b : ℕ) → FreesUpTo before was old mid all xs → counted before 0 ≤ was → counted was 0 ≤ met → met ≤ now → xs ≡ ys ++ b ∷ [] → Frees met now mid new b → FreesUpTo before now old new all ys
 freed-more {S} {before} {was} {met} {now} {old} {mid} {new} {all} {xs} {ys} b freed first e more pop frees = by frees
   where
     up : counted was 0 ≤ now
@@ -324,7 +329,7 @@ freed-more {S} {before} {was} {met} {now} {old} {mid} {new} {all} {xs} {ys} b fr
       aside = sets.aside ∙ (ap (λ q. q ++ b ∷ []) freed.aside ∙ append_assoc old.aside freed.kept (b ∷ []));
       each = λ c. omega (arith, freed.each c, left c, times-snoc c b freed.kept);
       count = omega (arith, freed.count, long, length-append freed.kept (b ∷ []));
-      rose = λ some_kept. rose-now before was now first (let P : ℕ → Type 0 = λ q. Rose q now in subst P e sets.rose);
+      rose = λ some_kept. rose-now before was met now first e sets.rose;
     }
 
 -- ---- lines of blocks that are freed
@@ -333,9 +338,13 @@ pub only-at : (xs : List ℕ) (h : Held) (c l : ℕ) (t : Bool) → nat_lt 0 (ti
 unfolding only
 only-at xs h c l t e = ap (λ q. cond q (h c l) None) e
 
-alone-at : (b : ℕ) (h : Held) (c l : ℕ) (t : Bool) → (c == b) ≡ t → alone b h c l ≡ cond t (h c l) None
+pub alone-at : (b : ℕ) (h : Held) (c l : ℕ) (t : Bool) → (c == b) ≡ t → alone b h c l ≡ cond t (h c l) None
 unfolding alone
 alone-at b h c l t e = ap (λ q. cond q (h c l) None) e
+
+pub no-line : (p : Option (List ℕ)) → is_some p ≡ false → p ≡ None
+no-line None e = refl
+no-line (Some x) e = absurd (false≢true (sym e))
 
 -- the lines of one more of them
 only-same : (xs ys : List ℕ) (b : ℕ) (h : Held) (c l : ℕ) → xs ≡ ys ++ b ∷ [] → (c == b) ≡ false → only xs h c l ≡ only ys h c l
@@ -348,15 +357,16 @@ only-here : (xs : List ℕ) (b : ℕ) (h : Held) (c l : ℕ) → 0 < times b xs 
 only-here xs b h c l is e =
     only-at xs h c l true (some (times c xs) (omega (arith, is, ap (λ q. times q xs) (eqb-true c b e))))
 
-pub only-apart : (h : Held) {k part : Held} (b : ℕ) (xs : List ℕ) → Apart k (only xs h) → 0 < times b xs → part ≡ alone b h → Apart k part
-only-apart h {k} {part} b xs away is e = record { at = λ c l held. ap (λ q. q c l) e ∙ by c l held (c == b) refl }
+pub only-apart : (h : Held) {k part : Held} (b : ℕ) (xs : List ℕ) → Apart k (only xs h) → 0 < times b xs → SameLines part (alone b h) → Apart k part
+only-apart h {k} {part} b xs away is e = record { at = λ c l held. by c l held (c == b) refl }
   where
-    by : (c l : ℕ) → IsSome (k c l) → (t : Bool) → (c == b) ≡ t → alone b h c l ≡ None
-    by c l held true q = alone-at b h c l true q ∙ (sym (only-here xs b h c l is q) ∙ away.at c l held)
-    by c l held false q = alone-at b h c l false q
+    by : (c l : ℕ) → IsSome (k c l) → (t : Bool) → (c == b) ≡ t → part c l ≡ None
+    by c l held true q =
+        no-line (part c l) (e.at c l ∙ ap is_some (alone-at b h c l true q ∙ (sym (only-here xs b h c l is q) ∙ away.at c l held)))
+    by c l held false q = no-line (part c l) (e.at c l ∙ ap is_some (alone-at b h c l false q))
 
 -- what the core holds after a block was freed
-pub apart-more : (h : Held) {k part new : Held} (b : ℕ) (xs ys : List ℕ) → Apart k (only xs h) → xs ≡ ys ++ b ∷ [] → times b ys ≡ 0 → part ≡ alone b h → SameLines new (Both k part) → Apart new (only ys h)
+pub apart-more : (h : Held) {k part new : Held} (b : ℕ) (xs ys : List ℕ) → Apart k (only xs h) → xs ≡ ys ++ b ∷ [] → times b ys ≡ 0 → SameLines part (alone b h) → SameLines new (Both k part) → Apart new (only ys h)
 apart-more h {k} {part} {new} b xs ys away pop gone e same = record { at = λ c l held. by c l held (c == b) refl }
   where
     by : (c l : ℕ) → IsSome (new c l) → (t : Bool) → (c == b) ≡ t → only ys h c l ≡ None
@@ -366,9 +376,9 @@ apart-more h {k} {part} {new} b xs ys away pop gone e same = record { at = λ c 
         mine : (t : Bool) → is_some (k c l) ≡ t → is_some (k c l) ≡ true
         mine true z = z
         mine false z =
-            absurd (false≢true (sym (ap is_some (ap (λ w. w c l) e ∙ alone-at b h c l false q)) ∙ (sym (ap (λ w. cond w true (is_some (part c l))) z) ∙ (sym (is_some-Both k part c l) ∙ (sym (same.at c l) ∙ held)))))
+            absurd (false≢true (sym (e.at c l ∙ ap is_some (alone-at b h c l false q)) ∙ (sym (ap (λ w. cond w true (is_some (part c l))) z) ∙ (sym (is_some-Both k part c l) ∙ (sym (same.at c l) ∙ held)))))
 
-pub lines-more : (k h first : Held) (all : List ℕ) {part new : Held} (b : ℕ) (xs ys : List ℕ) → xs ≡ ys ++ b ∷ [] → 0 < times b xs → times b ys ≡ 0 → part ≡ alone b h → SameLines new (Both k part) → SameLines (Both k (only xs h)) (Both first (only all h)) → SameLines (Both new (only ys h)) (Both first (only all h))
+pub lines-more : (k h first : Held) (all : List ℕ) {part new : Held} (b : ℕ) (xs ys : List ℕ) → xs ≡ ys ++ b ∷ [] → 0 < times b xs → times b ys ≡ 0 → SameLines part (alone b h) → SameLines new (Both k part) → SameLines (Both k (only xs h)) (Both first (only all h)) → SameLines (Both new (only ys h)) (Both first (only all h))
 lines-more k h first all {part} {new} b xs ys pop is gone e same before = record { at = λ c l. by c l (c == b) refl ∙ before.at c l }
   where
     now : (c l : ℕ) → is_some (Both new (only ys h) c l) ≡ cond (cond (is_some (k c l)) true (is_some (part c l))) true (is_some (only ys h c l))
@@ -388,18 +398,18 @@ lines-more k h first all {part} {new} b xs ys pop is gone e same before = record
         now c l
         ∙ (ap (λ z. cond (cond (is_some (k c l)) true (is_some (part c l))) true (is_some z)) (only-at ys h c l false (none (times c ys) (ap (λ z. times z ys) (eqb-true c b q) ∙ gone)))
         ∙ (three (is_some (k c l)) (is_some (part c l))
-        ∙ (ap (λ z. cond (is_some (k c l)) true (is_some z)) (ap (λ w. w c l) e ∙ (alone-at b h c l true q ∙ sym (only-here xs b h c l is q))) ∙ sym (is_some-Both k (only xs h) c l))))
+        ∙ (ap (cond (is_some (k c l)) true) (e.at c l ∙ ap is_some (alone-at b h c l true q ∙ sym (only-here xs b h c l is q))) ∙ sym (is_some-Both k (only xs h) c l))))
     by c l false q =
         now c l
-        ∙ (ap (λ z. cond (cond (is_some (k c l)) true (is_some z)) true (is_some (only ys h c l))) (ap (λ w. w c l) e ∙ alone-at b h c l false q)
+        ∙ (ap (λ z. cond (cond (is_some (k c l)) true z) true (is_some (only ys h c l))) (e.at c l ∙ ap is_some (alone-at b h c l false q))
         ∙ (two (is_some (k c l)) (is_some (only ys h c l)) ∙ (ap (λ z. cond (is_some (k c l)) true (is_some z)) (sym (only-same xs ys b h c l pop q)) ∙ sym (is_some-Both k (only xs h) c l))))
 
 -- a block that is not among those that are freed
-pub others-more : (k h : Held) {part new : Held} (b : ℕ) (all : List ℕ) → 0 < times b all → part ≡ alone b h → ((c l : ℕ) → c ≢ b → new c l ≡ Both k part c l) → (c l : ℕ) → times c all ≡ 0 → new c l ≡ k c l
+pub others-more : (k h : Held) {part new : Held} (b : ℕ) (all : List ℕ) → 0 < times b all → SameLines part (alone b h) → ((c l : ℕ) → c ≢ b → new c l ≡ Both k part c l) → (c l : ℕ) → times c all ≡ 0 → new c l ≡ k c l
 unfolding Both
 others-more k h {part} {new} b all is e rest c l gone =
     rest c l away
-    ∙ (ap (λ q. cond (is_some (k c l)) (k c l) q) (ap (λ w. w c l) e ∙ alone-at b h c l false (other c b away)) ∙ same (k c l))
+    ∙ (ap (λ q. cond (is_some (k c l)) (k c l) q) (no-line (part c l) (e.at c l ∙ ap is_some (alone-at b h c l false (other c b away)))) ∙ same (k c l))
   where
     away : c ≢ b
     away q = absurd (omega (arith, is, gone, ap (λ z. times z all) q))
@@ -421,13 +431,16 @@ lines-all k h first all {left} e same = record { at = λ c l. by c l (is_some (k
 pub names-none : {S : Type 0} (ps xs : List (ℕ × S)) (n : ℕ) → xs ≡ take n ps → n ≡ 0 → names_of xs ≡ []
 names-none ps xs n front e = ap names_of (front ∙ ap (λ q. take q ps) e)
 
+pub holds-part : {o : Origin} {h part : Held} (b : ℕ) → SameLines part (alone b h) → HoldsBlock o h b → HoldsBlock o part b
+holds-part {o} {h} {part} b lines whole = record { at = λ l fits. lines.at b l ∙ (ap is_some (alone-at b h b l true (eqb_same b)) ∙ whole.at l fits) }
+
 -- what one cut needs to be freed
-pub block-freed : {S : Type 0} {held : S → Held} {lent : S → Lent} {origin : S → Origin} {forced : S → Bool} {faults : S → ℕ} {o o' : Origin} {h mine : Held} (ps xs ys : List (ℕ × S)) (x : ℕ × S) (n m : ℕ) → CanFreeAll held lent origin forced faults o h mine ps → xs ≡ take n ps → n ≤ length ps → n ≡ m + 1 → xs ≡ ys ++ x ∷ [] → o' ≡ o → HoldsBlock o' (held x.1) x.0
+pub block-freed : {S : Type 0} {held : S → Held} {lent : S → Lent} {origin : S → Origin} {forced : S → Bool} {o o' : Origin} {h mine : Held} (ps xs ys : List (ℕ × S)) (x : ℕ × S) (n m : ℕ) → CanFreeAll held lent origin forced o h mine ps → xs ≡ take n ps → n ≤ length ps → n ≡ m + 1 → xs ≡ ys ++ x ∷ [] → o' ≡ o → HoldsBlock o' (held x.1) x.0
 block-freed {held = held} {o = o} {o' = o'} {h = h} ps xs ys x n m can front low next pop home =
     let P : Origin → Type 0 = λ q. HoldsBlock q (held x.1) x.0 in
-    subst P (sym home) (holds-alone x.0 (cut-at ps xs ys x n m can.each front low next pop).lines (can.are.whole x.0 (names-of-all ps xs ys x n front pop)))
+    subst P (sym home) (holds-part x.0 (part-at ps xs ys x n m can.each front low next pop).lines (can.are.whole x.0 (names-of-all ps xs ys x n front pop)))
 
-pub data-freed : {S : Type 0} {held : S → Held} {lent : S → Lent} {origin : S → Origin} {forced : S → Bool} {faults : S → ℕ} {o o' : Origin} {h mine : Held} (ps xs ys : List (ℕ × S)) (x : ℕ × S) (n : ℕ) → CanFreeAll held lent origin forced faults o h mine ps → xs ≡ take n ps → xs ≡ ys ++ x ∷ [] → o' ≡ o → IsDataBlock o'.sizes x.0
+pub data-freed : {S : Type 0} {held : S → Held} {lent : S → Lent} {origin : S → Origin} {forced : S → Bool} {o o' : Origin} {h mine : Held} (ps xs ys : List (ℕ × S)) (x : ℕ × S) (n : ℕ) → CanFreeAll held lent origin forced o h mine ps → xs ≡ take n ps → xs ≡ ys ++ x ∷ [] → o' ≡ o → IsDataBlock o'.sizes x.0
 data-freed ps xs ys x n can front pop home =
     let P : Origin → Type 0 = λ q. IsDataBlock q.sizes x.0 in
     subst P (sym home) (can.are.in_data x.0 (names-of-all ps xs ys x n front pop))
@@ -439,3 +452,18 @@ unforced-more first {was} {part} {now} e unforced before = e ∙ (ap (λ q. was 
     or_false : (t : Bool) → (t || false) ≡ t
     or_false true = refl
     or_false false = refl
+
+-- ---- faults of the parts that are freed
+
+sum-snoc : {S : Type 0} (f : ℕ × S → ℕ) (ys : List (ℕ × S)) (x : ℕ × S) → sum_by f (ys ++ x ∷ []) ≡ sum_by f ys + f x
+sum-snoc f ys x = sum_by-append f ys (x ∷ []) ∙ omega arith
+
+pub none-left : {S : Type 0} (f : ℕ × S → ℕ) (first now total n : ℕ) (ps xs : List (ℕ × S)) → counted first total ≤ counted now (sum_by f xs) → xs ≡ take n ps → n ≡ 0 → counted first total ≤ now
+none-left f first now total n ps xs before front e =
+    let none_of : sum_by f xs ≡ 0 = ap (sum_by f) (front ∙ ap (λ q. take q ps) e) in
+    omega (arith, before, none_of)
+
+pub all-faults : {S : Type 0} (f : ℕ × S → ℕ) (first was now : ℕ) (xs ys : List (ℕ × S)) (x : ℕ × S) (total : ℕ) → counted first total ≤ counted was (sum_by f xs) → xs ≡ ys ++ x ∷ [] → counted was (f x) ≤ now → counted first total ≤ counted now (sum_by f ys)
+all-faults f first was now xs ys x total before pop met =
+    let all : sum_by f xs ≡ sum_by f ys + f x = ap (sum_by f) pop ∙ sum-snoc f ys x in
+    omega (arith, before, all, met)

@@ -1,3 +1,5 @@
 pub mod Contents
+pub mod Ready
 pub mod StandsFor
 pub mod Truncate
+pub mod Write

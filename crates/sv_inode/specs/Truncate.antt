@@ -3,7 +3,7 @@ use Rattle.std.specs.Prelude.{◌≡◌, ◌≤◌, ◌<◌, ◌+◌, ◌++◌, 
 use Rattle.std.specs.List.{All}
 use Rattle.sv_dev.specs.Causes.{last_count}
 use Rattle.sv_form.specs.Geometry.{IsDataBlock, IsNumber, inode_place}
-use Rattle.sv_store.specs.Held.{Apart, Held, Lent, Origin, HoldsBlock, nothing_lent}
+use Rattle.sv_store.specs.Held.{Apart, Held, Lent, Origin, HoldsBlock, SameLines, nothing_lent}
 use Rattle.sv_super.specs.Core.{Core, alone}
 use Rattle.sv_super.specs.Count.{times}
 
@@ -40,6 +40,13 @@ pub record IsCut {S : Type 0} (held : S → Held) (lent : S → Lent) (origin : 
   pub unforced : forced cut.1 ≡ false
   pub none : faults cut.1 ≡ 0
 
+-- a block, and a stake that has its lines, whatever their bytes are and whatever faults it has counted
+pub record IsPart {S : Type 0} (held : S → Held) (lent : S → Lent) (origin : S → Origin) (forced : S → Bool) (o : Origin) (h : Held) (cut : ℕ × S) : Type 0 where
+  pub lines : SameLines (held cut.1) (alone cut.0 h)
+  pub away : lent cut.1 ≡ nothing_lent
+  pub home : origin cut.1 ≡ o
+  pub unforced : forced cut.1 ≡ false
+
 -- the blocks that were cut off
 abbrev pub names_of : {S : Type 0} → List (ℕ × S) → List ℕ
 names_of cuts = map (λ cut. cut.0) cuts
@@ -50,10 +57,11 @@ pub record IsCutFrom {S : Type 0} (held : S → Held) (lent : S → Lent) (origi
   pub each : All (IsCut held lent origin forced faults o h) cuts
   pub once : (b : ℕ) → times b (names_of cuts) ≤ 1
 
--- the blocks that were cut off can be freed where none of their lines is held by the core
-pub record CanFreeAll {S : Type 0} (held : S → Held) (lent : S → Lent) (origin : S → Origin) (forced : S → Bool) (faults : S → ℕ) (o : Origin) (h mine : Held) (cuts : List (ℕ × S)) : Type 0 where
+-- the blocks that were cut off can be freed, or become part of a file, where none of their lines is held by the stake that
+-- takes them
+pub record CanFreeAll {S : Type 0} (held : S → Held) (lent : S → Lent) (origin : S → Origin) (forced : S → Bool) (o : Origin) (h mine : Held) (cuts : List (ℕ × S)) : Type 0 where
   pub are : AreBlocks o h (names_of cuts)
-  pub each : All (IsCut held lent origin forced faults o h) cuts
+  pub each : All (IsPart held lent origin forced o h) cuts
   pub apart : Apart mine (only (names_of cuts) h)
 
 -- Blocks are freed one after another: each becomes the first of the chain, or is set aside, which happens only where the

@@ -1,6 +1,6 @@
 // Blocks that are cut off a stake, to be given back.
 ghost use Rattle.std.specs.Prelude.{◌≡◌, ◌≤◌, ◌<◌, ◌+◌, ◌++◌, ◌∷◌, [], ℕ, IfOk, OnOk, OnErr, IsErrOf, false, length};
-ghost use Rattle.std.specs.List.{All};
+ghost use Rattle.std.specs.List.{All, sum_by};
 ghost use Rattle.sv_dev.specs.Causes.{counted};
 ghost use Rattle.sv_form.specs.Geometry.{IsDataBlock};
 ghost use Rattle.sv_store.specs.Held.{Both, Held, HoldsBlock, SameLines, nothing_lent};
@@ -15,7 +15,7 @@ use sv_store::{LineRange, Refusal, Stake};
 use sv_super::SuperCore;
 
 // A block, and the stake that has its lines.
-type Cut<S> = (u32, S);
+pub(crate) type Cut<S> = (u32, S);
 
 // Cuts all lines of a data block off.
 fn cut_off<S: Stake>(alloc: Global, s: &mut S, b: u32) -> Result<S, Refusal>
@@ -157,17 +157,17 @@ pub(crate) fn cut_all<S: Stake>(
 // Frees all blocks that were cut off, the last one first.
 pub(crate) fn free_all<R: Wait, S: Stake>(rt: &R, core: &mut SuperCore<S>, cuts: Vec<Cut<S>>)
     requires spare { length cuts.items ≤ core.old.spare }
-    requires cuts { (h : Held) × CanFreeAll S.held S.lent S.origin S.forced S.faults (S.origin core.old.stake) h (S.held core.old.stake) cuts.items }
+    requires cuts { (h : Held) × CanFreeAll S.held S.lent S.origin S.forced (S.origin core.old.stake) h (S.held core.old.stake) cuts.items }
     ensures blocks { FreesAll (S.faults core.old.stake) (S.faults core.new.stake) core.old core.new (names_of cuts.items) }
     ensures spare { core.new.spare + length cuts.items ≡ core.old.spare }
     ensures inodes { core.new.inodes ≡ core.old.inodes }
     ensures head { core.new.head ≡ core.old.head }
-    ensures lines { (h : Held) → CanFreeAll S.held S.lent S.origin S.forced S.faults (S.origin core.old.stake) h (S.held core.old.stake) cuts.items → SameLines (S.held core.new.stake) (Both (S.held core.old.stake) (only (names_of cuts.items) h)) }
+    ensures lines { (h : Held) → CanFreeAll S.held S.lent S.origin S.forced (S.origin core.old.stake) h (S.held core.old.stake) cuts.items → SameLines (S.held core.new.stake) (Both (S.held core.old.stake) (only (names_of cuts.items) h)) }
     ensures others { (c l : ℕ) → times c (names_of cuts.items) ≡ 0 → S.held core.new.stake c l ≡ S.held core.old.stake c l }
     ensures lends { S.lent core.new.stake ≡ nothing_lent }
     ensures forced { S.forced core.new.stake ≡ S.forced core.old.stake }
     ensures origin { S.origin core.new.stake ≡ S.origin core.old.stake }
-    ensures faults { counted (S.faults core.old.stake) 0 ≤ S.faults core.new.stake }
+    ensures faults { counted (S.faults core.old.stake) (sum_by (λ cut. S.faults cut.1) cuts.items) ≤ S.faults core.new.stake }
 {
     let _left = core.left();
     let count = cuts.len();

@@ -3,15 +3,23 @@
 //! - `LockedInode` is an inode's number and body, with the stake that holds its lines. With these lines it stands for a
 //!   node: a kind, mode bits, links, a size and pages.
 //! - `readi` gives bytes of the node; it reads each page once and asks for the next one that is present ahead.
+//! - `writei` puts bytes into the node; it takes all blocks before it puts one.
 //! - `truncate` makes the file empty, and gives its blocks back.
 #![tactic(auto)]
 
 mod cuts;
+mod fill;
 mod locked;
 mod range;
+mod stop;
+mod supplies;
 #[cfg(test)]
 mod tests;
 #[cfg(test)]
 mod truncate_tests;
+mod write;
+#[cfg(test)]
+mod write_tests;
 
 pub use locked::LockedInode;
+pub use stop::WriteStop;

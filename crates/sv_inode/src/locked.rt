@@ -1,10 +1,11 @@
 // A locked inode.
-ghost use Rattle.std.specs.Prelude.{◌≡◌, ◌≤◌, ◌+◌, ◌-◌, ℕ, IfOk, OnErr, OnOk, length, max, min, replicate};
+ghost use Rattle.std.specs.Prelude.{◌≡◌, ◌≤◌, ◌<◌, ◌+◌, ◌-◌, ◌⊎◌, ℕ, IsSome, IfErr, IfOk, OnErr, OnOk, length, max, min, replicate, take};
 ghost use Rattle.sv_dev.specs.Causes.{counted};
 ghost use Rattle.sv_form.specs.Node.{Node, bytes_of};
-ghost use Rattle.sv_form.specs.NodeChanges.{emptied};
+ghost use Rattle.sv_form.specs.NodeChanges.{emptied, put};
 ghost use Rattle.sv_form.specs.PagePath.{greatest_size};
 ghost use Rattle.sv_store.specs.Held.{Apart, Both, SameLines, nothing_lent};
+ghost use Rattle.sv_super.specs.Core.{free_times, left_of};
 ghost use Rattle.sv_super.specs.Count.{times};
 ghost use Rattle.sv_bmap.specs.Causes.{HasReason};
 ghost use Rattle.sv_bmap.specs.Order.{blocks_of};
@@ -12,9 +13,12 @@ ghost use Rattle.sv_bmap.specs.Tree.{IsTree};
 ghost use Rattle.sv_inode.specs.Contents.{file_bytes};
 ghost use Rattle.sv_inode.specs.StandsFor.{HasDataBlocks, StandsFor};
 ghost use Rattle.sv_inode.specs.Truncate.{FreesAll, HoldsInode, less_all, only};
+ghost use Rattle.sv_inode.specs.Write.{HasRisen, StopsAt, TakesBlocks, done_by, write_need};
 
 use crate::cuts::{cut_all, free_all};
 use crate::range::read_range;
+use crate::stop::{WriteStop, at_once};
+use crate::write::{prepare, put_bytes};
 use std::alloc::Global;
 use std::sync::Wait;
 use sv_bmap::collect;
@@ -111,5 +115,57 @@ impl<S: Stake> LockedInode<S> {
         self.body.addresses = [0; 13];
         free_all(rt, core, cuts);
         Ok(())
+    }
+
+    /// Puts these bytes at byte `at` of the file (Bach, chapter 5.3, algorithm write), and makes the pages present that they
+    /// lie in. All blocks are taken before the first byte is put, so that a write without memory puts nothing. A write
+    /// stops short at the begin of a page where a fault was counted by the inode's stake or the core's; the blocks that
+    /// it took and did not use are free again.
+    pub fn writei<R: Wait>(
+        &mut self,
+        rt: &R,
+        alloc: Global,
+        core: &mut SuperCore<S>,
+        at: u32,
+        from: &[u8],
+    ) -> Result<(), WriteStop>
+        requires stands { (node : Node) × StandsFor (S.origin self.old.stake) (S.held self.old.stake) self.old.body node }
+        requires end { at + length from.now ≤ greatest_size (S.origin self.old.stake).sizes }
+        requires left { write_need (S.origin self.old.stake).sizes (S.held self.old.stake) self.old.body.addresses at (length from.now) ≤ left_of core.old }
+        requires apart { Apart (S.held core.old.stake) (S.held self.old.stake) }
+        requires lent { S.lent self.old.stake ≡ nothing_lent }
+        requires origin { S.origin core.old.stake ≡ S.origin self.old.stake }
+        ensures node { (node : Node) → StandsFor (S.origin self.old.stake) (S.held self.old.stake) self.old.body node
+            → StandsFor (S.origin self.new.stake) (S.held self.new.stake) self.new.body (put (S.origin self.old.stake).sizes.block_size node at (take (done_by (length from.now) result) from.now)) }
+        ensures stop { IfErr result (StopsAt (S.origin self.old.stake).sizes.block_size at (length from.now) (HasRisen (S.faults self.old.stake) (S.faults self.new.stake) ⊎ HasRisen (S.faults core.old.stake) (S.faults core.new.stake))) }
+        ensures takes { TakesBlocks S.held (write_need (S.origin self.old.stake).sizes (S.held self.old.stake) self.old.body.addresses at (done_by (length from.now) result)) core.old core.new (S.held self.old.stake) (S.held self.new.stake) }
+        ensures left { left_of core.new + write_need (S.origin self.old.stake).sizes (S.held self.old.stake) self.old.body.addresses at (done_by (length from.now) result) ≡ left_of core.old }
+        ensures together { SameLines (Both (S.held self.new.stake) (S.held core.new.stake)) (Both (S.held self.old.stake) (S.held core.old.stake)) }
+        ensures apart { Apart (S.held core.new.stake) (S.held self.new.stake) }
+        ensures others { (c l : ℕ) → free_times core.old.chain core.old.aside c ≡ 0 → S.held core.new.stake c l ≡ S.held core.old.stake c l }
+        ensures before { (c l : ℕ) → c < (S.origin self.old.stake).sizes.first_data → IsSome (S.held self.old.stake c l) → S.held self.new.stake c l ≡ S.held self.old.stake c l }
+        ensures inode { HoldsInode (S.origin self.old.stake) (S.held self.old.stake) self.old.number → HoldsInode (S.origin self.new.stake) (S.held self.new.stake) self.new.number }
+        ensures spare { OnOk result (core.new.spare ≡ max core.old.spare (write_need (S.origin self.old.stake).sizes (S.held self.old.stake) self.old.body.addresses at (length from.now))) }
+        ensures body { self.new.body ≡ record self.old.body { size = self.new.body.size; addresses = self.new.body.addresses } }
+        ensures number { self.new.number ≡ self.old.number }
+        ensures inodes { core.new.inodes ≡ core.old.inodes }
+        ensures head { core.new.head ≡ core.old.head }
+        ensures lends { S.lent self.new.stake ≡ nothing_lent }
+        ensures core_lends { S.lent core.new.stake ≡ nothing_lent }
+        ensures forced { S.forced self.new.stake ≡ S.forced self.old.stake }
+        ensures core_forced { S.forced core.new.stake ≡ S.forced core.old.stake }
+        ensures origin { S.origin self.new.stake ≡ S.origin self.old.stake }
+        ensures core_origin { S.origin core.new.stake ≡ S.origin core.old.stake }
+        ensures faults { S.faults self.old.stake ≤ S.faults self.new.stake }
+        ensures core_faults { counted (S.faults core.old.stake) 0 ≤ S.faults core.new.stake }
+    {
+        let _left = core.left();
+        if from.is_empty() {
+            return Ok(());
+        }
+        match prepare(rt, alloc, self, core, at, from.len() as u32) {
+            Ok(supplies) => put_bytes(rt, self, core, at, from, supplies),
+            Err(refusal) => Err(at_once(refusal)),
+        }
     }
 }

@@ -56,7 +56,7 @@ fn blocks(alloc: Global) -> Result<Vec<Vec<u8>>, NoMemory>
 }
 
 // A stake of 64 blocks, in which one call fails.
-fn whole_stake(alloc: Global, failing: u64) -> Result<OwnStake, NoMemory>
+pub(crate) fn whole_stake(alloc: Global, failing: u64) -> Result<OwnStake, NoMemory>
     ensures held { IfOk result (λ s. (b l : ℕ) → b < 64 → l < 16 → IsSome (⟦<OwnStake as Stake>⟧.held s b l)) }
     ensures row { IfOk result (λ s. (l : ℕ) → l < 16 → ⟦<OwnStake as Stake>⟧.held s 60 l ≡ Some (line_of (set (replicate 1024 0) 0 61) l)) }
     ensures lent { IfOk result (λ s. ⟦<OwnStake as Stake>⟧.lent s ≡ nothing_lent) }
@@ -98,7 +98,7 @@ fn mounted(alloc: Global) -> Result<Mounted, NoMemory>
 }
 
 // The superblock's lines of a stake, as a core without free blocks.
-fn empty_core<S: Stake>(
+pub(crate) fn empty_core<S: Stake>(
     alloc: Global,
     source: &mut S,
 ) -> Result<Result<SuperCore<S>, (S, NoMemory)>, Refusal>

@@ -1,13 +1,14 @@
 -- The block that is freed is the last one that is left.
-use Rattle.std.proofs.Common.{◌≡◌, ◌≤◌, ◌<◌, ◌+◌, ◌-◌, ◌++◌, ◌∷◌, [], ℕ, length, refl, ap, sym, ◌∙◌, arith}
+use Rattle.std.proofs.Common.{◌≡◌, ◌≤◌, ◌<◌, ◌+◌, ◌-◌, ◌++◌, ◌∷◌, [], ℕ, length, refl, sym, ◌∙◌, arith}
+use Rattle.std.specs.List.{sum_by}
 use Rattle.std.proofs.lemmas.List.{take_all}
 use Rattle.sv_bmap.proofs.Parts.{popped, len-is}
 use Rattle.sv_dev.specs.Causes.{counted}
-use Rattle.sv_store.specs.Held.{Held}
+use Rattle.sv_store.specs.Held.{Held, SameLines}
 use Rattle.sv_super.specs.Core.{alone}
 use Rattle.sv_super.specs.Count.{times}
-use Rattle.sv_inode.specs.Truncate.{CanFreeAll, IsCut, names_of}
-use Rattle.sv_inode.proofs.GivenBack.{apart-more, block-freed, cut-at, data-freed, freed-all, freed-more, freed-none, lines-all, lines-more, names-first, names-in, names-none, names-of-all, names-push, only-apart, others-more, unforced-more}
+use Rattle.sv_inode.specs.Truncate.{CanFreeAll, IsPart, names_of}
+use Rattle.sv_inode.proofs.GivenBack.{all-faults, apart-more, block-freed, part-at, data-freed, freed-all, freed-more, freed-none, lines-all, lines-more, names-first, names-in, names-none, names-of-all, names-push, none-left, only-apart, others-more, unforced-more}
 use Rattle.sv_inode.proofs.cuts.free_all.Goals as goal
 
 pub loop-cut-init : goal.loop-cut-init
@@ -25,6 +26,7 @@ loop-cut-init g c = record {
   forced = refl;
   origin = refl;
   faults = omega arith;
+  counts = omega arith;
 }
 
 pub free-requires-clause-in_data : goal.free-requires-clause-in_data
@@ -38,15 +40,15 @@ free-requires-clause-block g c κs within =
 pub free-requires-clause-apart : goal.free-requires-clause-apart
 free-requires-clause-apart g c κs within =
     only-apart c.requires.cuts.0 c.in-Some.b (names_of c.loop-cut.cuts.items) (c.loop-cut.invariant.apart c.requires.cuts.0 c.requires.cuts.1) (names-in c.loop-cut.cuts.items c.pop.new.self.items (c.in-Some.b, c.in-Some.part) c.in-Some.ensures.items)
-    (cut-at c.args.cuts.items c.loop-cut.cuts.items c.pop.new.self.items (c.in-Some.b, c.in-Some.part) (c.len-count.result - c.loop-cut._cut) (c.len-count.result - (c.loop-cut._cut + 1)) c.requires.cuts.1.each c.loop-cut.invariant.items (omega (arith, c.loop-cut.invariant.count)) (omega (arith, c.loop-cut-test.true)) c.in-Some.ensures.items).lines
+    (part-at c.args.cuts.items c.loop-cut.cuts.items c.pop.new.self.items (c.in-Some.b, c.in-Some.part) (c.len-count.result - c.loop-cut._cut) (c.len-count.result - (c.loop-cut._cut + 1)) c.requires.cuts.1.each c.loop-cut.invariant.items (omega (arith, c.loop-cut.invariant.count)) (omega (arith, c.loop-cut-test.true)) c.in-Some.ensures.items).lines
 
 pub free-requires-clause-lent : goal.free-requires-clause-lent
 free-requires-clause-lent g c κs within =
-    (cut-at c.args.cuts.items c.loop-cut.cuts.items c.pop.new.self.items (c.in-Some.b, c.in-Some.part) (c.len-count.result - c.loop-cut._cut) (c.len-count.result - (c.loop-cut._cut + 1)) c.requires.cuts.1.each c.loop-cut.invariant.items (omega (arith, c.loop-cut.invariant.count)) (omega (arith, c.loop-cut-test.true)) c.in-Some.ensures.items).away
+    (part-at c.args.cuts.items c.loop-cut.cuts.items c.pop.new.self.items (c.in-Some.b, c.in-Some.part) (c.len-count.result - c.loop-cut._cut) (c.len-count.result - (c.loop-cut._cut + 1)) c.requires.cuts.1.each c.loop-cut.invariant.items (omega (arith, c.loop-cut.invariant.count)) (omega (arith, c.loop-cut-test.true)) c.in-Some.ensures.items).away
 
 pub free-requires-clause-origin : goal.free-requires-clause-origin
 free-requires-clause-origin g c κs within =
-    (cut-at c.args.cuts.items c.loop-cut.cuts.items c.pop.new.self.items (c.in-Some.b, c.in-Some.part) (c.len-count.result - c.loop-cut._cut) (c.len-count.result - (c.loop-cut._cut + 1)) c.requires.cuts.1.each c.loop-cut.invariant.items (omega (arith, c.loop-cut.invariant.count)) (omega (arith, c.loop-cut-test.true)) c.in-Some.ensures.items).home
+    (part-at c.args.cuts.items c.loop-cut.cuts.items c.pop.new.self.items (c.in-Some.b, c.in-Some.part) (c.len-count.result - c.loop-cut._cut) (c.len-count.result - (c.loop-cut._cut + 1)) c.requires.cuts.1.each c.loop-cut.invariant.items (omega (arith, c.loop-cut.invariant.count)) (omega (arith, c.loop-cut-test.true)) c.in-Some.ensures.items).home
     ∙ sym c.loop-cut.invariant.origin
 
 pub loop-cut-preserved : goal.loop-cut-preserved
@@ -64,6 +66,7 @@ loop-cut-preserved g c = record {
   forced = unforced-more (g.S.Stake.forced c.args.core.now.stake) c.free.ensures.forced (cut c.requires.cuts.0 c.requires.cuts.1).unforced c.loop-cut.invariant.forced;
   origin = c.free.ensures.origin ∙ c.loop-cut.invariant.origin;
   faults = omega (arith, c.loop-cut.invariant.faults, met, c.free.ensures.faults);
+  counts = all-faults (λ cut. g.S.Stake.faults cut.1) (g.S.Stake.faults c.args.core.now.stake) (g.S.Stake.faults c.loop-cut.core.stake) (g.S.Stake.faults c.free.new.self.stake) c.loop-cut.cuts.items c.pop.new.self.items x (sum_by (λ cut. g.S.Stake.faults cut.1) c.args.cuts.items) c.loop-cut.invariant.counts c.in-Some.ensures.items c.free.ensures.faults;
 }
   where
     at : ℕ
@@ -78,13 +81,13 @@ loop-cut-preserved g c = record {
     next : c.len-count.result - c.loop-cut._cut ≡ at + 1
     next = omega (arith, c.loop-cut-test.true)
 
-    cut : (h : Held) → CanFreeAll g.S.Stake.held g.S.Stake.lent g.S.Stake.origin g.S.Stake.forced g.S.Stake.faults (g.S.Stake.origin c.args.core.now.stake) h (g.S.Stake.held c.args.core.now.stake) c.args.cuts.items → IsCut g.S.Stake.held g.S.Stake.lent g.S.Stake.origin g.S.Stake.forced g.S.Stake.faults (g.S.Stake.origin c.args.core.now.stake) h x
-    cut h can = cut-at c.args.cuts.items c.loop-cut.cuts.items c.pop.new.self.items x (c.len-count.result - c.loop-cut._cut) at can.each c.loop-cut.invariant.items low next c.in-Some.ensures.items
+    cut : (h : Held) → CanFreeAll g.S.Stake.held g.S.Stake.lent g.S.Stake.origin g.S.Stake.forced (g.S.Stake.origin c.args.core.now.stake) h (g.S.Stake.held c.args.core.now.stake) c.args.cuts.items → IsPart g.S.Stake.held g.S.Stake.lent g.S.Stake.origin g.S.Stake.forced (g.S.Stake.origin c.args.core.now.stake) h x
+    cut h can = part-at c.args.cuts.items c.loop-cut.cuts.items c.pop.new.self.items x (c.len-count.result - c.loop-cut._cut) at can.each c.loop-cut.invariant.items low next c.in-Some.ensures.items
 
-    part : (h : Held) → CanFreeAll g.S.Stake.held g.S.Stake.lent g.S.Stake.origin g.S.Stake.forced g.S.Stake.faults (g.S.Stake.origin c.args.core.now.stake) h (g.S.Stake.held c.args.core.now.stake) c.args.cuts.items → g.S.Stake.held c.in-Some.part ≡ alone c.in-Some.b h
+    part : (h : Held) → CanFreeAll g.S.Stake.held g.S.Stake.lent g.S.Stake.origin g.S.Stake.forced (g.S.Stake.origin c.args.core.now.stake) h (g.S.Stake.held c.args.core.now.stake) c.args.cuts.items → SameLines (g.S.Stake.held c.in-Some.part) (alone c.in-Some.b h)
     part h can = (cut h can).lines
 
-    first : (h : Held) → CanFreeAll g.S.Stake.held g.S.Stake.lent g.S.Stake.origin g.S.Stake.forced g.S.Stake.faults (g.S.Stake.origin c.args.core.now.stake) h (g.S.Stake.held c.args.core.now.stake) c.args.cuts.items → times c.in-Some.b (names_of c.pop.new.self.items) ≡ 0
+    first : (h : Held) → CanFreeAll g.S.Stake.held g.S.Stake.lent g.S.Stake.origin g.S.Stake.forced (g.S.Stake.origin c.args.core.now.stake) h (g.S.Stake.held c.args.core.now.stake) c.args.cuts.items → times c.in-Some.b (names_of c.pop.new.self.items) ≡ 0
     first h can = names-first c.args.cuts.items c.loop-cut.cuts.items c.pop.new.self.items x (c.len-count.result - c.loop-cut._cut) at can.are.once c.loop-cut.invariant.items low next c.in-Some.ensures.items
 
     names : names_of c.loop-cut.cuts.items ≡ names_of c.pop.new.self.items ++ c.in-Some.b ∷ []
@@ -93,11 +96,14 @@ loop-cut-preserved g c = record {
     inside : 0 < times c.in-Some.b (names_of c.loop-cut.cuts.items)
     inside = names-in c.loop-cut.cuts.items c.pop.new.self.items x c.in-Some.ensures.items
 
-    met : counted (g.S.Stake.faults c.loop-cut.core.stake) (g.S.Stake.faults c.in-Some.part) ≡ counted (g.S.Stake.faults c.loop-cut.core.stake) 0
-    met = ap (counted (g.S.Stake.faults c.loop-cut.core.stake)) (cut c.requires.cuts.0 c.requires.cuts.1).none
+    met : counted (g.S.Stake.faults c.loop-cut.core.stake) 0 ≤ counted (g.S.Stake.faults c.loop-cut.core.stake) (g.S.Stake.faults c.in-Some.part)
+    met = omega arith
 
 pub returns-clause-blocks : goal.returns-clause-blocks
 returns-clause-blocks g c = freed-all (names-none c.args.cuts.items c.loop-cut.cuts.items _ c.loop-cut.invariant.items (omega (arith, c.loop-cut-test.false))) c.loop-cut.invariant.freed
 
 pub returns-clause-lines : goal.returns-clause-lines
 returns-clause-lines g c = λ h can. lines-all (g.S.Stake.held c.loop-cut.core.stake) h (g.S.Stake.held c.args.core.now.stake) (names_of c.args.cuts.items) (names-none c.args.cuts.items c.loop-cut.cuts.items _ c.loop-cut.invariant.items (omega (arith, c.loop-cut-test.false))) (c.loop-cut.invariant.lines h can)
+
+pub returns-clause-faults : goal.returns-clause-faults
+returns-clause-faults g c = none-left (λ cut. g.S.Stake.faults cut.1) (g.S.Stake.faults c.args.core.now.stake) (g.S.Stake.faults c.loop-cut.core.stake) (sum_by (λ cut. g.S.Stake.faults cut.1) c.args.cuts.items) _ c.args.cuts.items c.loop-cut.cuts.items c.loop-cut.invariant.counts c.loop-cut.invariant.items (omega (arith, c.loop-cut-test.false))

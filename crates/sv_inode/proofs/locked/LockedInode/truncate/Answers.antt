@@ -36,7 +36,7 @@ returns-clause-freed g c = freed-since (ap g.S.Stake.faults c.in_ok-room.ensures
 pub returns-clause-lines : goal.returns-clause-lines
 returns-clause-lines g c = lines-since (g.S.Stake.held c.args.self.now.stake) (ap g.S.Stake.held c.in_ok-room.ensures.stake) (c.in_ok-cuts.ensures.names ∙ (c.as_slice.ensures.value ∙ c.in_ok-blocks.ensures.blocks)) (c.free_all.ensures.lines (g.S.Stake.held c.args.self.now.stake) can)
   where
-    can : CanFreeAll g.S.Stake.held g.S.Stake.lent g.S.Stake.origin g.S.Stake.forced g.S.Stake.faults (g.S.Stake.origin c.room.new.self.stake) (g.S.Stake.held c.args.self.now.stake) (g.S.Stake.held c.room.new.self.stake) c.in_ok-cuts.cuts.items
+    can : CanFreeAll g.S.Stake.held g.S.Stake.lent g.S.Stake.origin g.S.Stake.forced (g.S.Stake.origin c.room.new.self.stake) (g.S.Stake.held c.args.self.now.stake) (g.S.Stake.held c.room.new.self.stake) c.in_ok-cuts.cuts.items
     can =
         can-free c.in_ok-cuts.cuts.items c.in_ok-cuts.ensures.cuts (tree-blocks c.requires.tree c.requires.data_blocks) (c.in_ok-cuts.ensures.names ∙ (c.as_slice.ensures.value ∙ c.in_ok-blocks.ensures.blocks)) c.requires.apart
         c.in_ok-blocks.ensures.origin (ap g.S.Stake.origin c.in_ok-room.ensures.stake ∙ c.requires.origin) c.in_ok-blocks.ensures.held (ap g.S.Stake.held c.in_ok-room.ensures.stake)

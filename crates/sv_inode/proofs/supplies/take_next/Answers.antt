@@ -1,0 +1,13 @@
+-- The block comes with all its lines.
+use Rattle.std.proofs.Common.{◌++◌, ◌∷◌, [], ap, ◌∙◌}
+use Rattle.sv_inode.proofs.supplies.take_next.Goals as goal
+
+pub returns-clause-taken : goal.returns-clause-taken
+returns-clause-taken g c = record {
+  b = c.in_ok-b.b;
+  part = c.in_ok-b.part;
+  pushed = c.push_cut.ensures.items ∙ ap (λ q. q ++ (c.in_ok-b.b, c.in_ok-b.part) ∷ []) c.in_ok-reserve.ensures.items;
+  cut = record { lines = c.in_ok-b.ensures.theirs; away = c.in_ok-b.ensures.part_lent; home = c.in_ok-b.ensures.part_origin; unforced = c.in_ok-b.ensures.part_forced; none = c.in_ok-b.ensures.part_faults };
+  free = c.in_ok-b.ensures.block;
+  left = c.in_ok-b.ensures.mine;
+}
