@@ -9,13 +9,8 @@
 # empty    the root alone: a chain of over 65,000 free blocks
 # unread   `files` with a wrong first byte: what is left is the reading of the image file into memory
 set -eu
-top=$(cd "$(dirname "$0")/.." && pwd)
-work=$(mktemp -d)
-trap 'rm -rf "$work"' EXIT
-"$top/svfs" check "$top/crates/svfs/data/E" >/dev/null
-program=$top/crates/svfs/out/svfs
+. "$(dirname "$0")/timed.sh"
 python3 "$top/bench/images.py" "$work"
-. "$top/bench/timed.sh"
 
 for image in files wide deep named empty unread; do
     timed "svfs $image" "$program" check "$work/$image"

@@ -8,26 +8,21 @@
 # dd           as many writes of 1,024 bytes to a new file
 # mkfs.minix   writes its tables and leaves the blocks behind them alone; svfs writes each block
 set -eu
-top=$(cd "$(dirname "$0")/.." && pwd)
-work=$(mktemp -d)
-trap 'rm -rf "$work"' EXIT
-"$top/svfs" check "$top/crates/svfs/data/E" >/dev/null
-program=$top/crates/svfs/out/svfs
-. "$top/bench/timed.sh"
+. "$(dirname "$0")/timed.sh"
 
 made_new() {
     rm -f "$work/new"
     "$program" mkfs "$work/new" 65536 20000
 }
 
-timed 'svfs new' made_new
-timed 'svfs again' "$program" mkfs "$work/new" 65536 20000
-timed 'svfs least' "$program" mkfs "$work/least" 4 2
 written_new() {
     rm -f "$work/written"
     dd if=/dev/zero of="$work/written" bs=1024 count=65536 status=none
 }
 
+timed 'svfs new' made_new
+timed 'svfs again' "$program" mkfs "$work/new" 65536 20000
+timed 'svfs least' "$program" mkfs "$work/least" 4 2
 timed dd written_new
 truncate -s 64M "$work/minix"
 timed 'mkfs.minix' mkfs.minix -2 -n 30 -i 20000 "$work/minix"

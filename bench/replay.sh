@@ -6,12 +6,7 @@
 # writes   long lines: 1,024 bytes are written over the same page again and again
 # none     no entry: what is left is the check and the load of the image
 set -eu
-top=$(cd "$(dirname "$0")/.." && pwd)
-work=$(mktemp -d)
-trap 'rm -rf "$work"' EXIT
-"$top/svfs" check "$top/crates/svfs/data/E" >/dev/null
-program=$top/crates/svfs/out/svfs
-. "$top/bench/timed.sh"
+. "$(dirname "$0")/timed.sh"
 "$program" mkfs "$work/image" 65536 20000
 
 for kind in looks writes none; do

@@ -1,5 +1,12 @@
-# Sourced by the scripts that time the program's commands: `timed NAME WORDS` tells the least of five runs of the words, in
-# milliseconds, and the last line that they wrote. It wants a folder in $work.
+# Sourced by the scripts that time the program's commands. It names the top of the repository, a folder that goes at the end, and
+# the program, which is built if need be. `timed NAME WORDS` tells the least of five runs of the words, in milliseconds, and the
+# last line that they wrote.
+top=$(cd "$(dirname "$0")/.." && pwd)
+work=$(mktemp -d)
+trap 'rm -rf "$work"' EXIT
+"$top/svfs" check "$top/crates/svfs/data/E" >/dev/null
+program=$top/crates/svfs/out/svfs
+
 timed() {
     local name=$1 best=; shift
     for _ in 1 2 3 4 5; do
