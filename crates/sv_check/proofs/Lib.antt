@@ -73,3 +73,4 @@ mod MadeSound
 mod MadeSuper
 mod MadeWalk
 mod SpelledNumbers
+mod FreedLists
