@@ -1,6 +1,7 @@
 #!/usr/bin/env bash
 # Tries each link of the documents: the file that it names is there, and so is the heading behind a #. A path in backticks that begins
-# with a folder of the top has to be there too. Links to other places than this repository are not tried.
+# with a folder of the top has to be there too, and a name in backticks, as `sv_bmap::lookup`, has to stand in the code of that crate.
+# Links to other places than this repository are not tried.
 set -u
 cd "$(dirname "$0")/.." || exit 1
 failed=0
@@ -25,6 +26,9 @@ for page in *.md docs/*.md; do
   for path in $(grep -oE '`(crates|docs|checks|bench|\.ci)/[A-Za-z0-9_./-]+`' "$page" | tr -d '`'); do
     case $path in *..*) continue ;; esac
     [ -e "$path" ] || tell "$page" "$path is not there"
+  done
+  for name in $(grep -oE '`sv[a-z_]*(::[A-Za-z_]+)+`' "$page" | tr -d '`' | sort -u); do
+    grep -rqwE --include='*.rt' "(fn|struct|enum|trait|type|const) ${name##*::}" "crates/${name%%::*}/src" || tell "$page" "$name is not there"
   done
 done
 exit $failed
