@@ -91,7 +91,8 @@ sed -n 's/^\([a-z_]*\)[^:]*: /\1 /p' "$top/crates.txt" | while read -r crate bel
 done >"$work/order"
 [ ! -s "$work/order" ] || tell "$(cat "$work/order")"
 grep -q '^goes on sv_plain$' "$asked" || tell "what was kept is gone"
-[ ! -e "$clone/crates/svfs/out/proving" ] || tell "the copies are left"
+[ -z "$(find "$work/tmp" -name 'svfs-proving-*')" ] || tell "the copies are left"
+[ -z "$(find "$clone/crates/svfs/out" -name '*.rt')" ] || tell "a copy stands in the checkout"
 
 # Nothing is proved again where nothing changed, nor where files were only touched; a change is.
 runs_again() { # what was done, how often rt is to be asked
