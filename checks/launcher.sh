@@ -16,7 +16,7 @@ for crate in "$top"/crates/*/; do
     [ ! -d "$crate$folder" ] || { mkdir -p "$clone/crates/$(basename "$crate")" && cp -r "$crate$folder" "$clone/crates/$(basename "$crate")"; }
   done
 done
-for tool in bash env dirname readlink find sed grep sort xargs sha256sum cat touch mkdir cp mktemp rm sleep head tail; do
+for tool in bash env dirname readlink find sed grep sort xargs sha256sum cat touch mkdir cp mktemp rm sleep head tail flock; do
   ln -s "$(command -v "$tool")" "$work/bin/$tool"
 done
 
@@ -27,6 +27,8 @@ cat >"$work/kit/rt" <<'RT'
 name=$(basename "$PWD")
 echo "begin $name" >>"$ASKED"
 echo 'so far: 1 of 9 functions checked'
+[ ! -e out/kept ] || echo "goes on $name" >>"$ASKED"
+mkdir -p out && touch out/kept
 [ "$name" != "${FAILS-}" ] || { echo "error: $name is not proved"; exit 1; }
 await() { for _ in $(seq 600); do grep -q "$1" "$2" && return; sleep 0.1; done; echo "error: $name waits for $1"; exit 1; }
 meet() { await "^begin $1\$" "$ASKED"; }
@@ -41,9 +43,7 @@ esac
 echo "end $name" >>"$ASKED"
 RT
 chmod +x "$work/kit/rt"
-ln -s "$(command -v seq)" "$work/kit/seq"
-ln -s "$(command -v basename)" "$work/kit/basename"
-ln -s "$(command -v chmod)" "$work/kit/chmod"
+for tool in seq basename chmod; do ln -s "$(command -v "$tool")" "$work/kit/$tool"; done
 
 launch() { # PATH, words: leaves status, out and note
   local path=$1; shift
@@ -74,6 +74,7 @@ grep -q 'error: sv_plain is not proved' "$work/note" || tell "the error of a cra
 grep -q '^svfs: sv_plain could not be built; all that was said is in /' "$work/note" || tell "it is not said which crate is not proved"
 [ ! -s "$work/out" ] || tell "something ran that was not proved"
 
+# The next run goes on with what the crates' copies kept.
 # Each crate of the program is proved once, after those that it stands on; crates that do not wait for each other met.
 : >"$asked"
 launch "$with_rt" check image
@@ -89,7 +90,9 @@ sed -n 's/^\([a-z_]*\)[^:]*: /\1 /p' "$top/crates.txt" | while read -r crate bel
   done
 done >"$work/order"
 [ ! -s "$work/order" ] || tell "$(cat "$work/order")"
-[ -z "$(find "$clone/crates/svfs/out" -name 'proving.*')" ] || tell "the copies are left"
+grep -q '^goes on sv_plain$' "$asked" || tell "what was kept is gone"
+[ -z "$(find "$work/tmp" -name 'svfs-proving-*')" ] || tell "the copies are left"
+[ -z "$(find "$clone/crates/svfs/out" -name '*.rt')" ] || tell "a copy stands in the checkout"
 
 # Nothing is proved again where nothing changed, nor where files were only touched; a change is.
 runs_again() { # what was done, how often rt is to be asked
