@@ -8,6 +8,7 @@ pub mod EntrySteps
 pub mod Fault
 pub mod FilePages
 pub mod Freeing
+pub mod FreshWalk
 pub mod InodeCache
 pub mod InodeList
 pub mod Links

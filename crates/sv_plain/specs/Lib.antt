@@ -12,6 +12,7 @@ pub mod Listing
 pub mod Missing
 pub mod Names
 pub mod Needs
+pub mod NeedsWithin
 pub mod Shares
 pub mod Step
 pub mod Taken

@@ -1,0 +1,11 @@
+mod ConverseDots
+mod ConverseEntries
+mod ConverseNames
+mod CountedTests
+mod PurgedAtRest
+mod RangeTests
+mod RestedNodes
+mod SoundAtRest
+mod WalkedDirectories
+mod WalkedNamings
+mod WaysUp
