@@ -1,7 +1,16 @@
+mod ChainCuts
+mod ConverseChain
 mod ConverseDots
 mod ConverseEntries
+mod ConverseInodes
 mod ConverseNames
+mod ConverseSizes
+mod ConverseWalk
 mod CountedTests
+mod HeldBytes
+mod HeldInode
+mod HeldTree
+mod JoinedTimes
 mod PurgedAtRest
 mod RangeTests
 mod RestedNodes

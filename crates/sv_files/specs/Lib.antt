@@ -1,1 +1,4 @@
+pub mod ConverseChain
+pub mod ConverseInodes
+pub mod ConverseLines
 pub mod ConverseNames

@@ -1,5 +1,37 @@
-// From the nodes of a file system back to a sound image.
+// From the nodes of a file system, and from held lines, back to a sound image.
+ghost use Rattle.sv_files.specs.ConverseChain.{FlushedIsChained};
+ghost use Rattle.sv_files.specs.ConverseInodes.{NodesAreWalkedOnce, NodesHaveInodes};
+ghost use Rattle.sv_files.specs.ConverseLines.{FlushedIsCached, FlushedIsSized};
 ghost use Rattle.sv_files.specs.ConverseNames.{NodesAreNamed, PurgedIsAtRest, SoundIsAtRest};
+
+/// An image that has the lines of a flushed core is sized: the conditions 1 to 3 of a sound image hold, and its sizes are
+/// those of the core.
+pub fn flushed_is_sized()
+    ensures law { FlushedIsSized }
+{}
+
+/// An image of those sizes that has the lines of the inodes of a whole file system at rest, and zero bytes in those of the free
+/// ones, has each inode readable and of a size that it may have: the conditions 4 and 5.
+pub fn nodes_have_inodes()
+    ensures law { NodesHaveInodes }
+{}
+
+/// The walk over the blocks of such inodes meets data blocks alone, and each once, whichever parts they are held in: the
+/// conditions 6 and 7.
+pub fn nodes_are_walked_once()
+    ensures law { NodesAreWalkedOnce }
+{}
+
+/// Where the free blocks of the core are the data blocks that the walk does not meet, its chain is in order and no data block
+/// is lost: the conditions 10 and 11.
+pub fn flushed_is_chained()
+    ensures law { FlushedIsChained }
+{}
+
+/// Where the cached inodes of the core are free, and each stands there once, condition 12 holds.
+pub fn flushed_is_cached()
+    ensures law { FlushedIsCached }
+{}
 
 /// Where the walk finds an image in order, and its tree is the nodes of a whole file system in which each node has links and
 /// no link is pending, its root, entries, dots and links are in order: the conditions 13 to 16.
