@@ -2,3 +2,5 @@ pub mod ConverseChain
 pub mod ConverseInodes
 pub mod ConverseLines
 pub mod ConverseNames
+pub mod ConversePages
+pub mod ConverseSound

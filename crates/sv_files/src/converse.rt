@@ -2,7 +2,16 @@
 ghost use Rattle.sv_files.specs.ConverseChain.{FlushedIsChained};
 ghost use Rattle.sv_files.specs.ConverseInodes.{NodesAreWalkedOnce, NodesHaveInodes};
 ghost use Rattle.sv_files.specs.ConverseLines.{FlushedIsCached, FlushedIsSized};
+ghost use Rattle.sv_files.specs.ConverseSound.{ClosedIsSound};
+ghost use Rattle.sv_files.specs.ConversePages.{NodesArePagedWell, NodesAreTree};
 ghost use Rattle.sv_files.specs.ConverseNames.{NodesAreNamed, PurgedIsAtRest, SoundIsAtRest};
+
+/// An image that has the lines of a file system that was closed is sound, and its tree is the nodes: each node of a whole file
+/// system in which each node has links and no link is pending stands in a part of the lines, and the rest are those of a
+/// flushed core whose chain has the blocks that no node uses, and of the free inodes.
+pub fn closed_is_sound()
+    ensures law { ClosedIsSound }
+{}
 
 /// An image that has the lines of a flushed core is sized: the conditions 1 to 3 of a sound image hold, and its sizes are
 /// those of the core.
@@ -20,6 +29,17 @@ pub fn nodes_have_inodes()
 /// conditions 6 and 7.
 pub fn nodes_are_walked_once()
     ensures law { NodesAreWalkedOnce }
+{}
+
+/// An image that has the lines of the nodes of a whole file system at rest has no page past a size, no indirect block without
+/// a number, and zero bytes after the end of each last page: the conditions 8 and 9.
+pub fn nodes_are_paged_well()
+    ensures law { NodesArePagedWell }
+{}
+
+/// The tree of such an image is the nodes.
+pub fn nodes_are_tree()
+    ensures law { NodesAreTree }
 {}
 
 /// Where the free blocks of the core are the data blocks that the walk does not meet, its chain is in order and no data block
