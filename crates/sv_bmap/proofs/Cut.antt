@@ -180,7 +180,7 @@ need-far g h size =
     need-zeros g h thirteen (Triple 0 0 0) 65802 (omega (arith, n-is), omega (arith, n-is), omega (arith, n-is)) (ap (λ (n : ℕ). first_triple n + ((0 * n + 0) * n + 0)) n-is) ∙ hole-zeros h 0 (0 ∷ 0 ∷ 0 ∷ []) refl
 
 hole-page : (g : Geometry) (h : Held) (page : ℕ) → page_block g h thirteen page ≡ 0
-unfolding page_block
+unfolding Rattle.sv_form.specs.AddressTree.page_block
 hole-page g h page = down-hole h (get_or thirteen (slot_of (path (block_numbers g) page)) 0) (places_of (path (block_numbers g) page)) (zeros (slot_of (path (block_numbers g) page)))
 
 four : (P : ℕ → ℕ → Type 0) → P 0 100 → P 1 101 → P 2 102 → P 3 103 → (i : ℕ) → i < 4 → P i (get_or (100 ∷ 101 ∷ 102 ∷ 103 ∷ []) i 0)

@@ -82,3 +82,56 @@ fn pages(rt: HostRuntime) -> Result<(), Fail> {
     assert!(rt; is_empty(&[0; 16], 0));
     Ok(())
 }
+
+// A whole page of 64 entries. The first and the second spell none: a name with a byte behind a zero byte, and one without an
+// inode. The third is named abc, the last ab, and all between them z.
+fn whole_page() -> [u8; 1024] {
+    let mut page = [0; 1024];
+    for place in 0..64 {
+        page[16 * place] = 5;
+        page[16 * place + 2] = b'z';
+    }
+    page[2..5].copy_from_slice(b"q\0r");
+    page[16..19].copy_from_slice(b"\0\0x");
+    page[34..37].copy_from_slice(b"abc");
+    page[1008] = 9;
+    page[1010..1012].copy_from_slice(b"ab");
+    page
+}
+
+// The same without its last entry.
+fn page_with_room() -> [u8; 1024] {
+    let mut page = whole_page();
+    page[1008..].fill(0);
+    page
+}
+
+// The beginning of an entry's name is not its name, and what spells no entry has none, but is no room either.
+#[test]
+fn names_in_a_whole_page(rt: HostRuntime) -> Result<(), Fail> {
+    let names: [(&[u8], Option<(u32, u16)>); 7] = [
+        (b"abc", Some((2, 5))),
+        (b"ab", Some((63, 9))),
+        (b"a", None),
+        (b"abcd", None),
+        (b"q", None),
+        (b"x", None),
+        (b"z", Some((3, 5))),
+    ];
+    let page = whole_page();
+    for (name, wanted) in names {
+        let name = Name::read(name).ok_or("a name")?;
+        assert_eq!(rt; find(&page, &name), wanted);
+    }
+    Ok(())
+}
+
+#[test]
+fn room_in_a_whole_page(rt: HostRuntime) {
+    let page = whole_page();
+    assert_eq!(rt; empty_place(&page), None);
+    assert!(rt; !is_empty(&page, 63));
+    assert!(rt; is_empty(&page, 64));
+    assert!(rt; is_empty(&page[16..32], 0));
+    assert_eq!(rt; empty_place(&page_with_room()), Some(63));
+}

@@ -111,7 +111,7 @@ module _ (image : List ℕ) (o : Origin) (fs : Fs) (parts : ℕ → Held) (other
     some none = (let least = data_block.least in let first = sizes.least_first in omega (arith, least, first, none))
 
     reached-here : list_any (λ (r : Reached). r.block == b) (reached g image inode) ≡ true
-    unfolding reached
+    unfolding Rattle.sv_form.specs.AddressTree.reached
     reached-here =
         let low = i.spot.among in
         let on : down (parts n) (address_of inode i.slot) i.ks ≢ 0 = λ none. some (sym down-is ∙ none) in

@@ -128,7 +128,7 @@ module _ (o : Origin) (image : List ℕ) (h : Held) (lines : HasLines o.sizes im
   }
 
   pub each_under : (height page b : ℕ) → b ≢ 0 → IsHeldBelow o image h lines height b → Each (IsReachedAt height page b) (reached_under g image height page b)
-  unfolding reached_under
+  unfolding Rattle.sv_form.specs.AddressTree.reached_under
   each_under zero page b some below = (first_reached zero page b some, tt)
   each_under (suc height) page b some below = (
     first_reached (suc height) page b some,
@@ -149,7 +149,7 @@ module _ (o : Origin) (image : List ℕ) (h : Held) (lines : HasLines o.sizes im
 
   pub there_under : (height page b : ℕ) (ks : List ℕ) → length ks ≡ height → IsWay o image h lines height ks → down h b ks ≢ 0 → IsHeldBelow o image h lines height b → (test : Reached → Bool)
       → ((r : Reached) → r.height ≡ 0 → r.page ≡ page + offset per height ks → r.block ≡ down h b ks → test r ≡ true) → list_any test (reached_under g image height page b) ≡ true
-  unfolding reached_under
+  unfolding Rattle.sv_form.specs.AddressTree.reached_under
   there_under zero page b [] size way some below test passes =
       ap (λ (t : Bool). t || false) (passes (record { height = 0; page = page; block = b }) refl (omega arith) refl)
   there_under zero page b (k ∷ ks) size way some below test passes = absurd (omega (arith, size))
@@ -171,7 +171,7 @@ module _ (o : Origin) (image : List ℕ) (h : Held) (lines : HasLines o.sizes im
   -- and so is what stands at the end of any way
   pub met_under : (height page b : ℕ) (ks : List ℕ) → IsWay o image h lines height ks → down h b ks ≢ 0 → IsHeldBelow o image h lines height b → (test : Reached → Bool)
       → ((r : Reached) → r.block ≡ down h b ks → test r ≡ true) → list_any test (reached_under g image height page b) ≡ true
-  unfolding reached_under
+  unfolding Rattle.sv_form.specs.AddressTree.reached_under
   met_under zero page b [] way some below test passes = ap (λ (t : Bool). t || false) (passes (record { height = 0; page = page; block = b }) refl)
   met_under zero page b (k ∷ ks) way some below test passes = (let deep = way.deep in absurd (omega (arith, deep)))
   met_under (suc height) page b [] way some below test passes =

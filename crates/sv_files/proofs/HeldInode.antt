@@ -53,7 +53,7 @@ module _ (o : Origin) (image : List ℕ) (h : Held) (lines : HasLines o.sizes im
       }
 
   pub in_tree : (c : ℕ) → 0 < met block c (reached o.sizes image inode) → IsInTree c
-  unfolding reached
+  unfolding Rattle.sv_form.specs.AddressTree.reached
   in_tree c there =
       let i = one_in block c has from 13 0 there in
       let low = i.high in
@@ -68,7 +68,7 @@ module _ (o : Origin) (image : List ℕ) (h : Held) (lines : HasLines o.sizes im
       (tree.once j one.ks k two.ks (way_spot j one.ks jl one.way) (way_spot k two.ks kl two.way) (λ none. one.some (sym first ∙ none)) (first ∙ sym second)).0
 
   pub once_in_tree : (c : ℕ) → met block c (reached o.sizes image inode) ≤ 1
-  unfolding reached
+  unfolding Rattle.sv_form.specs.AddressTree.reached
   once_in_tree c =
       few_in block c has from 13 0
       (λ k low high so. once_under o image h lines (height_of k) (first_page o.sizes k) (address_of inode k) c (some_test (address_of inode k) so) (below k (omega (arith, high))))

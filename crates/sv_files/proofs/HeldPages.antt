@@ -66,7 +66,7 @@ module _ (o : Origin) (image : List ℕ) (h : Held) (lines : HasLines o.sizes im
     pub at : IsReachedAt o image h lines (height_of slot) (first_page g slot) (address_of inode slot) r
 
   pub each_from : Each IsFrom (reached g image inode)
-  unfolding reached
+  unfolding Rattle.sv_form.specs.AddressTree.reached
   each_from =
       each_joined IsFrom has from 13 0
       (λ k least low so.
@@ -180,7 +180,7 @@ module _ (o : Origin) (image : List ℕ) (h : Held) (lines : HasLines o.sizes im
           sym q.page_is ∙ same-page g q.path p q.is is q.slot_is q.places_is ∙ page_is
 
       pub there_by : (test : Reached → Bool) → ((r : Reached) → r.height ≡ 0 → r.page ≡ k → test r ≡ true) → list_any test (reached g image inode) ≡ true
-      unfolding reached
+      unfolding Rattle.sv_form.specs.AddressTree.reached
       there_by test passes =
           any_joined has from test 13 0 (slot_of p) (omega arith) (let low = low-slot in omega (arith, low))
           (ap not (ne_eqb (address_of inode (slot_of p)) 0 (hole-down o image h lines (address_of inode (slot_of p)) (places_of p) down-some)))

@@ -51,7 +51,7 @@ module _ (o : Origin) (image : List ℕ) (h : Held) (lines : HasLines o.sizes im
     same-number = number_by (h b (k / 16)) refl (holds.at (k / 16) (omega (arith, within)))
 
     pub child-number : b ≢ 0 → child h b k ≡ number_in (block_of g image b) k
-    unfolding child
+    unfolding Rattle.sv_form.specs.AddressTree.child
     child-number some = ap (λ (t : Bool). if t then 0 else tree.number_in h b k) (ne_eqb b 0 some) ∙ same-number
 
   -- ---- a way down
@@ -111,11 +111,11 @@ module _ (o : Origin) (image : List ℕ) (h : Held) (lines : HasLines o.sizes im
   counted b c false is some = absurd (omega (arith, some))
 
   met-under : (height page b c : ℕ) → met block c (under (suc height) page b) ≡ one_if (b == c) + met block c (flat_map (below_block height page b) (filter (is_filled b) (range_with_len 0 per)))
-  unfolding reached_under
+  unfolding Rattle.sv_form.specs.AddressTree.reached_under
   met-under height page b c = times-cons c b _
 
   met-page : (page b c : ℕ) → met block c (under zero page b) ≡ one_if (b == c)
-  unfolding reached_under
+  unfolding Rattle.sv_form.specs.AddressTree.reached_under
   met-page page b c = omega (arith, times-cons c b [], times-nil c)
 
   abbrev at_child : (height b k c : ℕ) → b ≢ 0 → k < per → IsHeldBelow (suc height) b → IsAtEnd height (number_in (block_of g image b) k) c → IsAtEnd (suc height) b c

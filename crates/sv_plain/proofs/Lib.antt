@@ -47,9 +47,11 @@ pub mod LowestUnused
 pub mod NameBytes
 pub mod OpenedInodes
 pub mod PageAdds
+pub mod PageBytes
 pub mod Places
 pub mod Purged
 pub mod RemovedNames
+pub mod RoomNeeds
 pub mod RootWhole
 pub mod SameBytes
 pub mod Shown

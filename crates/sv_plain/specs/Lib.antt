@@ -11,6 +11,7 @@ pub mod Listing
 pub mod Missing
 pub mod Names
 pub mod Needs
+pub mod NeedsWithin
 pub mod Step
 pub mod Taken
 pub mod Totals

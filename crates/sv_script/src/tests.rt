@@ -10,11 +10,14 @@ fn fault(alloc: Global, text: &[u8]) -> Option<(u32, ScriptFault)> {
 
 #[test]
 fn faulty_lines(rt: HostRuntime) {
-    let rows: [(&[u8], u32, ScriptFault); 28] = [
+    let rows: [(&[u8], u32, ScriptFault); 31] = [
         (b"frob 1", 1, ScriptFault::Word),
         (b"\n#\nfrob 1\nopen", 3, ScriptFault::Word),
         (b" sync", 1, ScriptFault::Word),
         (b"SYNC", 1, ScriptFault::Word),
+        (b"\rsync", 1, ScriptFault::Word),
+        (b"sync\n\r\nsync", 2, ScriptFault::Word),
+        (b"\r#", 1, ScriptFault::Word),
         (b"open /a", 1, ScriptFault::Count),
         (b"sync ", 1, ScriptFault::Count),
         (b"open  /a r", 1, ScriptFault::Count),

@@ -4,6 +4,8 @@ ghost use Rattle.std.specs.Thread.{IsSync};
 ghost use Rattle.sv_turn.specs.Counted.{IsCounted, IsCut, in_any_order, with_blank, without_blank, in_two, in_one, weighs_both, Has};
 ghost use Rattle.sv_turn.specs.Passes.{pass_view, turn_events};
 
+mod to_and_fro;
+
 use crate::{CutView, FirstView, NewView, NoMemory, Pass, Turn, TurnRule, WholeView};
 use std::alloc::Global;
 use std::process::Abort;

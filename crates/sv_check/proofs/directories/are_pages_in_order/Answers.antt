@@ -12,7 +12,7 @@ use Rattle.sv_check.proofs.EntryTakes.{when_true}
 use Rattle.sv_check.proofs.Flaws.{none_here}
 use Rattle.sv_check.proofs.StandingSteps.{length-pieces}
 use Rattle.sv_check.proofs.ToldEntries.{taken_below, told_end, told_first, told_on}
-use Rattle.sv_check.proofs.directories.is_in_order.Goals as goal
+use Rattle.sv_check.proofs.directories.are_pages_in_order.Goals as goal
 
 pub loop-k-init : goal.loop-k-init
 loop-k-init g c = record {
@@ -21,7 +21,7 @@ loop-k-init g c = record {
   size = c.requires.block;
   len = refl;
   told = told_first c.args.sizes.now (g.D.Disk.content c.args.disk.now) c.args.directory.now.inode (standing_of c.args.standings.now);
-  through = through_first c.args.sizes.now (g.D.Disk.content c.args.disk.now) c.args.directory.now.inode _ c.new-names.result (ap (λ (d : DirectoryPages). d.pages) c.requires.ready.is) c.new-names.ensures;
+  through = through_first c.args.sizes.now (g.D.Disk.content c.args.disk.now) c.args.directory.now.inode _ c.args.names.now (ap (λ (d : DirectoryPages). d.pages) c.requires.ready.is) c.requires.names;
 }
 
 pub returns-in_default-clause-order : goal.returns-in_default-clause-order
