@@ -8,9 +8,9 @@ ghost use Rattle.sv_store.specs.Numbered.{Numbers, IsNumbered, IsQuiet};
 ghost use Rattle.sv_store.specs.OwnBlock.{held_of, lent_of, IsSound};
 
 use crate::own_block::{
-    Own, copies_of, copy_all, join, lend, lend_zeros, lose_all, put_back, take_back, whole_list,
-    zero_content,
+    Own, copy_all, join, lend, lend_zeros, put_back, take_back, whole_list, zero_content,
 };
+use crate::own_cut::cut_off;
 use crate::{Buf, LineRange, NoMemory, Refusal, Stake};
 use std::alloc::{AllocError, Global};
 use std::collections::LinkedList;
@@ -290,8 +290,7 @@ impl Stake for OwnStake {
         ensures new_numbers { IfOk result (λ new. ⟦<OwnStake as Numbered>⟧.numbers new ≡ record { fails = (⟦<OwnStake as Numbered>⟧.numbers self.old).fails; calls = 0; faults = 0 }) }
     {
         let tally = self.tally.anew(alloc)?;
-        let blocks = copies_of(alloc, &mut self.blocks, self.sizes, lines)?;
-        lose_all(&mut self.blocks, self.sizes, lines);
+        let blocks = cut_off(alloc, &mut self.blocks, self.sizes, lines)?;
         Ok(OwnStake {
             sizes: self.sizes,
             blocks,
