@@ -32,13 +32,13 @@ mod MakingSteps
 mod MkfsRows
 mod MkfsSteps
 mod NestedImages
-mod OwnedBlocks
-mod OwnedLines
+pub mod OwnedBlocks
+pub mod OwnedLines
 mod PageFinds
 mod PageOrder
 mod PutSteps
 mod ReachedBlocks
-mod ReadyDirectories
+pub mod ReadyDirectories
 mod SeenSteps
 mod SizedImages
 pub mod SizeFlaws
