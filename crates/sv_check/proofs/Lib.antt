@@ -14,7 +14,7 @@ mod EntryTakes
 pub mod FileBlocks
 pub mod FileTexts
 mod FileWalks
-mod Flaws
+pub mod Flaws
 mod FreeBlocks
 mod GoodEntries
 pub mod InodeReads

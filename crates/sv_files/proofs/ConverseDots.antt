@@ -1,5 +1,5 @@
 -- Conditions 13 and 15 from the nodes: the root, and the dots of each directory.
-use Rattle.std.proofs.Common.{◌≡◌, ◌≢◌, ◌≤◌, ◌<◌, ◌+◌, ◌-◌, ◌==◌, ◌&&◌, ◌||◌, ◌∷◌, [], ◌∙◌, ℕ, zero, suc, Bool, not, true, false, List, Option, Some, None, inl, inr, ap, sym, refl, cond, if◌then◌else◌, map, length, nat_le, option_map, arith}
+use Rattle.std.proofs.Common.{◌≡◌, ◌≢◌, ◌≤◌, ◌<◌, ◌+◌, ◌-◌, ◌==◌, ◌&&◌, ◌||◌, ◌∷◌, [], ◌∙◌, ℕ, zero, suc, Bool, not, true, false, List, Option, Some, None, inl, inr, ap, sym, refl, subst, cond, if◌then◌else◌, map, flat_map, length, nat_le, option_map, arith}
 use Rattle.std.specs.List.{list_all, list_any, range_with_len}
 use Rattle.std.specs.Ordering.{nat_cmp}
 use Rattle.std.specs.FinMap as fmap
@@ -153,7 +153,7 @@ module _ (image : List ℕ) (w : IsWalked image) (fs : Fs) (rest : IsAtRest (sti
         dir-children image w parent l.low l.high l.so d ∙ ap (λ (n : Node). state.naming_count bs n 2 d) (sym l.node_is) ∙ p.3 in
         the_element parent (holders_of (namings g image) d) one
         (ap (λ (l : List ℕ). list_any (λ y. y == parent) l) (sym (holders-flat image w (linked image w fs rest) d))
-        ∙ any_joined (λ m. is_directory (inode_of g image m)) (λ m. holders_of (namings_of g image m) d) parent (inode_count g) 1 parent l.low l.high l.so
+        ∙ any_joined (λ m. is_directory (inode_of g image m)) (λ m. holders_of (namings_of g image m) d) (λ y. y == parent) (inode_count g) 1 parent l.low l.high l.so
         (own_any parent (holders_of (namings_of g image parent) d) there (dir-own image w parent l.low l.high l.so d)))
 
     placed-is : is_placed (namings g image) d parent ≡ true

@@ -1,5 +1,5 @@
 -- Tests that hold, or fail, at each number of a range.
-use Rattle.std.proofs.Common.{◌≡◌, ◌≢◌, ◌≤◌, ◌<◌, ◌+◌, ◌==◌, ◌&&◌, ◌||◌, ◌++◌, ◌∷◌, [], ◌⊎◌, ◌∙◌, ℕ, zero, suc, Bool, not, true, false, List, Some, None, inl, inr, ap, sym, refl, cond, map, filter, find, flat_map, arith}
+use Rattle.std.proofs.Common.{◌≡◌, ◌≢◌, ◌≤◌, ◌<◌, ◌+◌, ◌==◌, ◌&&◌, ◌||◌, ◌++◌, ◌∷◌, [], ◌⊎◌, ◌∙◌, ℕ, zero, suc, Bool, not, true, false, List, Option, Some, None, inl, inr, ap, sym, refl, cond, map, filter, find, flat_map, length, arith}
 use Rattle.std.specs.List.{list_all, list_any, range_with_len}
 use Rattle.std.specs.Cmp.Lexicographic.{same_text, other_text}
 use Rattle.std.proofs.lemmas.Bool.{cases_eq, false≢true}
@@ -92,29 +92,29 @@ module _ (f : ℕ → List ℕ) where
       (λ so. nowhere (name_in (f a)) n (a + 1) (λ k low high to. other a k (omega arith) (omega (arith, low)) (omega (arith, high)) (some_number (named_by (f a)) so) to))
       (no_two n (a + 1) (λ j k low up high one two. other j k (omega (arith, low)) up (omega (arith, high)) one two))
 
--- ---- what stands in one of joined lists stands in the joined list
+-- ---- what passes in one of joined lists passes in the joined list
 
-module _ (q : ℕ → Bool) (h : ℕ → List ℕ) (x : ℕ) where
-  any_append : (xs ys : List ℕ) → list_any (λ y. y == x) ys ≡ true → list_any (λ y. y == x) (xs ++ ys) ≡ true
+module _ {X : Type 0} (q : ℕ → Bool) (h : ℕ → List X) (test : X → Bool) where
+  any_append : (xs ys : List X) → list_any test ys ≡ true → list_any test (xs ++ ys) ≡ true
   any_append [] ys e = e
-  any_append (z ∷ xs) ys e = ap (λ (t : Bool). (z == x) || t) (any_append xs ys e) ∙ or_true (z == x)
+  any_append (z ∷ xs) ys e = ap (λ (t : Bool). test z || t) (any_append xs ys e) ∙ or_true (test z)
 
-  front_test : (t rest : Bool) (xs ys : List ℕ) → (list_any (λ y. y == x) xs ≡ true → rest ≡ true) → (t || list_any (λ y. y == x) xs) ≡ true → (t || rest) ≡ true
-  front_test true rest xs ys later e = refl
-  front_test false rest xs ys later e = later e
+  front_test : (t rest : Bool) (xs : List X) → (list_any test xs ≡ true → rest ≡ true) → (t || list_any test xs) ≡ true → (t || rest) ≡ true
+  front_test true rest xs later e = refl
+  front_test false rest xs later e = later e
 
-  any_front : (xs ys : List ℕ) → list_any (λ y. y == x) xs ≡ true → list_any (λ y. y == x) (xs ++ ys) ≡ true
+  any_front : (xs ys : List X) → list_any test xs ≡ true → list_any test (xs ++ ys) ≡ true
   any_front [] ys e = let bad : ⊥ = cc e in absurd bad
-  any_front (z ∷ xs) ys e = front_test (z == x) (list_any (λ y. y == x) (xs ++ ys)) xs ys (λ more. any_front xs ys more) e
+  any_front (z ∷ xs) ys e = front_test (test z) (list_any test (xs ++ ys)) xs (λ more. any_front xs ys more) e
 
-  any_step : (a k : ℕ) (t : Bool) (rest : List ℕ) → q a ≡ t → q k ≡ true → list_any (λ y. y == x) (h k) ≡ true → (a + 1 ≤ k → list_any (λ y. y == x) (flat_map h rest) ≡ true)
-      → a ≤ k → (a ≡ k) ⊎ (a ≡ k → ⊥) → list_any (λ y. y == x) (flat_map h (cond t (a ∷ rest) rest)) ≡ true
+  any_step : (a k : ℕ) (t : Bool) (rest : List ℕ) → q a ≡ t → q k ≡ true → list_any test (h k) ≡ true → (a + 1 ≤ k → list_any test (flat_map h rest) ≡ true)
+      → a ≤ k → (a ≡ k) ⊎ (a ≡ k → ⊥) → list_any test (flat_map h (cond t (a ∷ rest) rest)) ≡ true
   any_step a k false rest is so here later low (inl e) = absurd (false≢true (sym is ∙ ap q e ∙ so))
   any_step a k false rest is so here later low (inr other) = later (omega (arith, low, other))
-  any_step a k true rest is so here later low (inl e) = any_front (h a) (flat_map h rest) (ap (λ (y : ℕ). list_any (λ z. z == x) (h y)) e ∙ here)
+  any_step a k true rest is so here later low (inl e) = any_front (h a) (flat_map h rest) (ap (λ (y : ℕ). list_any test (h y)) e ∙ here)
   any_step a k true rest is so here later low (inr other) = any_append (h a) (flat_map h rest) (later (omega (arith, low, other)))
 
-  pub any_joined : (n a k : ℕ) → a ≤ k → k < a + n → q k ≡ true → list_any (λ y. y == x) (h k) ≡ true → list_any (λ y. y == x) (flat_map h (filter q (range_with_len a n))) ≡ true
+  pub any_joined : (n a k : ℕ) → a ≤ k → k < a + n → q k ≡ true → list_any test (h k) ≡ true → list_any test (flat_map h (filter q (range_with_len a n))) ≡ true
   any_joined zero a k low high so here = absurd (omega (arith, low, high))
   any_joined (suc n) a k low high so here =
       any_step a k (q a) (filter q (range_with_len (a + 1) n)) refl so here (λ more. any_joined n (a + 1) k more (omega (arith, high)) so here) low (cases_eq a k)
