@@ -32,13 +32,13 @@ mod MakingSteps
 mod MkfsRows
 mod MkfsSteps
 mod NestedImages
-pub mod OwnedBlocks
-pub mod OwnedLines
+mod OwnedBlocks
+mod OwnedLines
 mod PageFinds
 mod PageOrder
 mod PutSteps
 mod ReachedBlocks
-pub mod ReadyDirectories
+mod ReadyDirectories
 mod SeenSteps
 mod SizedImages
 pub mod SizeFlaws
