@@ -323,16 +323,20 @@ module _ (a : Fs) (m : Nodes) (fewer : Fewer m a.nodes) (idle : is_idle a ≡ tr
 legal-past : (h : List Entry) (a b : Fs) (m : Nodes) → Fewer m a.nodes → is_idle a ≡ true → Leads h (pruned a m) b → IsLegal h a
 legal-past [] a b m fewer idle is = tt
 legal-past (e ∷ h) a b m fewer idle is =
-    let next = past a m fewer idle e.op e.process e.reply is.0 is.1 in
-    (record { allowed = next.allowed; right = next.right },
-    legal-past h (change_of a e.process e.op e.reply) b next.nodes next.fewer next.idle (subst (λ (x : Fs). Leads h x b) next.is is.2))
+    let next = past a m fewer idle e.op e.process e.reply is.0 is.1 in (
+      record { allowed = next.allowed; right = next.right },
+      legal-past h (change_of a e.process e.op e.reply) b next.nodes next.fewer next.idle (subst (λ (x : Fs). Leads h x b) next.is is.2),
+    )
 
 went-late : (a c : Fs) → HasPurgedSome a c → (m : Nodes) × ((c ≡ pruned a m) × Fewer m a.nodes)
-went-late a c h =
-    (map.retain_keys a.nodes (λ i. not (h.gone i)),
-    (h.changed,
+went-late a c h = (
+  map.retain_keys a.nodes (λ i. not (h.gone i)),
+  (
+    h.changed,
     λ i node e. held_some (not (h.gone i)) (map.get a.nodes i) node
-    (sym (map.get-retain_keys a.nodes (λ i. not (h.gone i)) i (λ x tied. ap (λ (k : ℕ). not (h.gone k)) (sym (nat_cmp-IsAntisymmetric i x tied)))) ∙ e)))
+        (sym (map.get-retain_keys a.nodes (λ i. not (h.gone i)) i (λ x tied. ap (λ (k : ℕ). not (h.gone k)) (sym (nat_cmp-IsAntisymmetric i x tied)))) ∙ e),
+  ),
+)
 
 legal-from : (h : List Entry) (a c b : Fs) (p : ℕ) (op : Op) (reply : Reply) → condition a p op ≡ true → ((d : Fs) → Leads h d b → IsLegal h d) → (c ≡ change_of a p op reply) ⊎ WentLate a p op reply c → Leads h c b → IsLegal h (change_of a p op reply)
 legal-from h a c b p op reply allowed on (inl e) rest = on (change_of a p op reply) (subst (λ (x : Fs). Leads h x b) e rest)
@@ -342,6 +346,7 @@ legal-from h a c b p op reply allowed on (inr late) rest =
 
 pub leads-legal : (h : List Entry) (a b : Fs) → Leads h a b → IsLegal h a
 leads-legal [] a b is = tt
-leads-legal (e ∷ h) a b is =
-    (record { allowed = is.1.allowed; right = is.1.right },
-    legal-from h a is.0 b e.process e.op e.reply is.1.allowed (λ d more. leads-legal h d b more) (after-is e.op a e.process e.reply is.0 is.1.changed) is.2)
+leads-legal (e ∷ h) a b is = (
+  record { allowed = is.1.allowed; right = is.1.right },
+  legal-from h a is.0 b e.process e.op e.reply is.1.allowed (λ d more. leads-legal h d b more) (after-is e.op a e.process e.reply is.0 is.1.changed) is.2,
+)
