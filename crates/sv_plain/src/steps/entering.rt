@@ -1,13 +1,13 @@
 // Names in directories: what enters them there.
-ghost use Rattle.std.specs.Prelude.{◌≡◌, ◌<◌, ◌≤◌, unwrap_or, option_map, IsSome, length, OnOk, OnErr, IfOk, IfErr};
+ghost use Rattle.std.specs.Prelude.{◌≡◌, ◌<◌, ◌≤◌, ◌&&◌, nat_le, unwrap_or, option_map, IsSome, length, OnOk, OnErr, IfOk, IfErr};
 ghost use Rattle.std.specs.FinMap as map;
 ghost use Rattle.sv_form.specs.Node.{entry_count};
 ghost use Rattle.sv_plain.specs.declared.op.Op.TheVariants as op;
 ghost use Rattle.sv_plain.specs.Fs.{changed};
-ghost use Rattle.sv_plain.specs.Names.{empty_place};
+ghost use Rattle.sv_plain.specs.Names.{empty_place, has_reference, is_pending, promise_of};
 ghost use Rattle.sv_plain.specs.Change.{with_entry};
 ghost use Rattle.sv_plain.specs.Entered.{with_sized_page};
-ghost use Rattle.sv_plain.specs.Step.{enter_allowed, enter_replies};
+ghost use Rattle.sv_plain.specs.Step.{enter_replies};
 ghost use Rattle.sv_plain.specs.Taken.{IsTaken, IsRefused};
 ghost use Rattle.sv_plain.specs.Whole.{IsWhole};
 
@@ -87,12 +87,13 @@ impl Fs {
         Ok(())
     }
 
-    fn allows_enter(&self, process: u8, d: u16, name: &Name, i: u16) -> bool
-        ensures { result ≡ enter_allowed self.now process d name.now i }
+    // The pending inode i may be entered in d, where that takes so many blocks.
+    fn allows_enter(&self, process: u8, d: u16, i: u16, need: u32) -> bool
+        ensures { result ≡ (has_reference self.now process d && (is_pending self.now process i && nat_le need (promise_of self.now process))) }
     {
         self.has_reference(process, d)
             && self.is_pending(process, i)
-            && self.enter_need(d, name) <= self.promise_of(process)
+            && need <= self.promise_of(process)
     }
 
     fn answers_enter(&self, d: u16, name: &Name, reply: &Reply) -> bool
@@ -123,7 +124,8 @@ impl Fs {
         ensures refused { IfErr result (IsRefused self.old process (op.Enter d name.now i) reply.now) }
         ensures kept { OnErr result (self.new ≡ self.old) }
     {
-        if !self.allows_enter(process, d, name, i) {
+        let need = self.enter_need(d, name);
+        if !self.allows_enter(process, d, i, need) {
             return Err(Illegal::Condition);
         }
         if !self.answers_enter(d, name, reply) {
@@ -131,7 +133,6 @@ impl Fs {
         }
         match reply {
             Reply::Entered => {
-                let need = self.enter_need(d, name);
                 let Ok(page) = self.entry_page(alloc, d, name, i) else {
                     return Err(Illegal::NoMemory);
                 };

@@ -1,13 +1,13 @@
 // Files and directories: what makes them.
-ghost use Rattle.std.specs.Prelude.{◌≡◌, ◌≢◌, ◌≤◌, true, None, IsSome, length, OnOk, OnErr, IfErr};
+ghost use Rattle.std.specs.Prelude.{◌≡◌, ◌≢◌, ◌≤◌, ◌&&◌, nat_le, true, None, IsSome, length, OnOk, OnErr, IfErr};
 ghost use Rattle.std.specs.FinMap as map;
 ghost use Rattle.sv_form.specs.declared.kind.Kind.TheVariants.{Dir};
 ghost use Rattle.sv_plain.specs.declared.op.Op.TheVariants as op;
 ghost use Rattle.sv_plain.specs.Fs.{changed, with_node, is_full_for};
-ghost use Rattle.sv_plain.specs.Names.{child_passes, links_of};
+ghost use Rattle.sv_plain.specs.Names.{child_passes, has_reference, links_of, promise_of};
 ghost use Rattle.sv_plain.specs.Change.{with_entry, with_links, new_node, one_more};
 ghost use Rattle.sv_plain.specs.Entered.{with_sized_page};
-ghost use Rattle.sv_plain.specs.Step.{create_need, create_allowed, create_replies, has_many_links, takes_one_more, has_inode, is_free, links_made};
+ghost use Rattle.sv_plain.specs.Step.{create_need, create_replies, has_many_links, takes_one_more, has_inode, is_free, links_made};
 ghost use Rattle.sv_plain.specs.Taken.{IsTaken, IsRefused};
 ghost use Rattle.sv_plain.specs.Whole.{IsWhole};
 
@@ -43,12 +43,11 @@ impl Fs {
         }
     }
 
-    fn allows_create(&self, process: u8, d: u16, name: &Name, kind: Kind, mode: u16) -> bool
-        ensures { result ≡ create_allowed self.now process d name.now kind mode }
+    // Something with this mode that takes so many blocks may be made in d.
+    fn allows_create(&self, process: u8, d: u16, mode: u16, need: u32) -> bool
+        ensures { result ≡ (has_reference self.now process d && (nat_le mode 4095 && nat_le need (promise_of self.now process))) }
     {
-        self.has_reference(process, d)
-            && mode <= MOST_MODE
-            && self.create_need(d, name, kind) <= self.promise_of(process)
+        self.has_reference(process, d) && mode <= MOST_MODE && need <= self.promise_of(process)
     }
 
     // Directory d can have no directory more.
@@ -232,7 +231,8 @@ impl Fs {
         ensures refused { IfErr result (IsRefused self.old process (op.Create d name.now kind mode) reply.now) }
         ensures kept { OnErr result (self.new ≡ self.old) }
     {
-        if !self.allows_create(process, d, name, kind, mode) {
+        let need = self.create_need(d, name, kind);
+        if !self.allows_create(process, d, mode, need) {
             return Err(Illegal::Condition);
         }
         if !self.answers_create(d, name, kind, reply) {
@@ -246,7 +246,6 @@ impl Fs {
                 Ok(())
             }
             Reply::Made(i) => {
-                let need = self.create_need(d, name, kind);
                 let Ok(()) = self.make(alloc, process, d, name, kind, mode, *i) else {
                     return Err(Illegal::NoMemory);
                 };
