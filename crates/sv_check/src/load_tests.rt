@@ -1,6 +1,7 @@
 // A worked row of the tree of an image.
 ghost use Rattle.sv_check.specs.Sound.{IsMountedFrom};
 
+use crate::tests::says_fault;
 use crate::{LoadFault, check, load};
 use std::alloc::{AllocError, Global};
 use std::process::Abort;
@@ -55,6 +56,25 @@ fn loaded_text(
     }
 }
 
+// Whether the text of the tree is this, and these places are read in this order.
+fn loads_exactly(alloc: Global, lines: &[u8], log: &[Access]) -> Result<bool, Failure> {
+    let mut disk = MemDisk::new(image_with_hole(alloc)?, Vec::new(alloc));
+    let is_text = has_text(alloc, &mut disk, lines)?;
+    Ok(is_text & (disk.log() == log))
+}
+
+fn has_text(alloc: Global, disk: &mut MemDisk, lines: &[u8]) -> Result<bool, Failure> {
+    let text = tree_text(alloc, disk)?;
+    Ok(text.is_some_and(|t| t.as_slice() == lines))
+}
+
+// Whether there is no text, where the k-th read fails.
+fn is_stopped(alloc: Global, k: u64) -> Result<bool, Failure> {
+    let fails = vec![in alloc; Fail::Read(k)]?;
+    let mut disk = MemDisk::new(image_with_hole(alloc)?, fails);
+    Ok(tree_text(alloc, &mut disk)?.is_none())
+}
+
 // The text, and that each block is read once after the seven reads of the check: the inode list, the root's page, and of
 // the file a page, the indirect block and the page below it. Each of these reads may fail.
 #[test]
@@ -76,14 +96,19 @@ fn tree_of_an_image(rt: HostRuntime) -> Result<(), Failure> {
         Access::Read(5_120),
         Access::Read(6_144),
     ];
-    let mut disk = MemDisk::new(image_with_hole(alloc)?, Vec::new(alloc));
-    let text = tree_text(alloc, &mut disk)?;
-    assert!(rt; text.is_some_and(|t| t.as_slice() == lines.as_slice()));
-    assert!(rt; disk.log() == log.as_slice());
+    assert!(rt; loads_exactly(alloc, lines, &log)?);
     for k in 8..=12 {
-        let fails = vec![in alloc; Fail::Read(k)]?;
-        let mut disk = MemDisk::new(image_with_hole(alloc)?, fails);
-        assert!(rt; tree_text(alloc, &mut disk)?.is_none());
+        assert!(rt; is_stopped(alloc, k)?);
+    }
+    Ok(())
+}
+
+// Each of the seven reads of the check may fail, that of the indirect block among them.
+#[test]
+fn faults_of_the_check(rt: HostRuntime) -> Result<(), Failure> {
+    let alloc = rt.alloc();
+    for k in 1..=7 {
+        assert!(rt; says_fault(alloc, image_with_hole(alloc)?, k)?);
     }
     Ok(())
 }

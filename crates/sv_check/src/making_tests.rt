@@ -33,18 +33,21 @@ fn shows(disk: &mut MemDisk, number: u16, at: usize, bytes: &[u8]) -> bool
     block[at..].starts_with(bytes)
 }
 
-// The vectors of an image of 64 blocks and 32 inodes.
+// Whether the disk has the vectors of an image of 64 blocks and 32 inodes, once it is made there.
+fn has_vectors(disk: &mut MemDisk) -> bool {
+    let is_made = mkfs(disk, 64, 32).is_ok();
+    let head = b"\x53\x56\x35\x46\x02\x00\x04\x00\x40\x00\x00\x00\x0a\x00\x1e\x00\x0e\x00\x00\x00";
+    let has_head = shows(disk, 0, 512, head);
+    let root = b"\xed\x41\x02\x00\x00\x00\x00\x00\x20\x00\x00\x00\x04\x00\x00";
+    let has_root = shows(disk, 2, 64, root);
+    let list = b"\x32\x00\x00\x00\x00\x00\x00\x00\x3f\x00\x00\x00\x3e\x00\x00\x00";
+    is_made & has_head & has_root & shows(disk, 14, 0, list)
+}
+
 #[test]
 fn vectors(rt: HostRuntime) -> Result<(), Failure> {
-    let alloc = rt.alloc();
-    let mut disk = set_disk(alloc, 64)?;
-    assert!(rt; mkfs(&mut disk, 64, 32).is_ok());
-    let head = b"\x53\x56\x35\x46\x02\x00\x04\x00\x40\x00\x00\x00\x0a\x00\x1e\x00\x0e\x00\x00\x00";
-    assert!(rt; shows(&mut disk, 0, 512, head));
-    let root = b"\xed\x41\x02\x00\x00\x00\x00\x00\x20\x00\x00\x00\x04\x00\x00";
-    assert!(rt; shows(&mut disk, 2, 64, root));
-    let list = b"\x32\x00\x00\x00\x00\x00\x00\x00\x3f\x00\x00\x00\x3e\x00\x00\x00";
-    assert!(rt; shows(&mut disk, 14, 0, list));
+    let mut disk = set_disk(rt.alloc(), 64)?;
+    assert!(rt; has_vectors(&mut disk));
     Ok(())
 }
 
@@ -67,12 +70,15 @@ fn is_image(disk: &mut MemDisk, image: &[u8]) -> bool {
 // All 64 blocks are those of the image that was put together by hand.
 #[test]
 fn whole_image(rt: HostRuntime) -> Result<(), Failure> {
-    let alloc = rt.alloc();
-    let mut disk = set_disk(alloc, 64)?;
-    assert!(rt; mkfs(&mut disk, 64, 32).is_ok());
-    let image = made_image(alloc)?;
-    assert!(rt; is_image(&mut disk, &image));
+    assert!(rt; makes_image(rt.alloc())?);
     Ok(())
+}
+
+fn makes_image(alloc: Global) -> Result<bool, AllocError> {
+    let image = made_image(alloc)?;
+    let mut disk = set_disk(alloc, 64)?;
+    let is_made = mkfs(&mut disk, 64, 32).is_ok();
+    Ok(is_made & is_image(&mut disk, &image))
 }
 
 // The blocks, free blocks, inodes and used inodes of the image that was made on a disk of so many blocks.
@@ -154,14 +160,24 @@ fn writes_and_faults(rt: HostRuntime) -> Result<(), Failure> {
         Access::Write(2_048),
         Access::Write(3_072),
     ];
-    let mut disk = set_disk(alloc, 4)?;
-    assert!(rt; mkfs(&mut disk, 4, 2).is_ok());
-    assert!(rt; disk.log() == log.as_slice());
+    assert!(rt; writes_exactly(alloc, &log)?);
     for k in 1..=4 {
-        let content = vec![in alloc; 0xff; 4_096]?;
-        let fails = vec![in alloc; Fail::Write(k)]?;
-        let mut disk = MemDisk::new(content, fails);
-        assert!(rt; mkfs(&mut disk, 4, 2) == Err(MakeFault::Fault));
+        assert!(rt; says_fault(alloc, k)?);
     }
     Ok(())
+}
+
+// Whether an image of four blocks is made by these writes alone.
+fn writes_exactly(alloc: Global, log: &[Access]) -> Result<bool, AllocError> {
+    let mut disk = set_disk(alloc, 4)?;
+    let is_made = mkfs(&mut disk, 4, 2).is_ok();
+    Ok(is_made & (disk.log() == log))
+}
+
+// Whether the making tells that the disk failed, where the k-th write fails.
+fn says_fault(alloc: Global, k: u64) -> Result<bool, AllocError> {
+    let fails = vec![in alloc; Fail::Write(k)]?;
+    let content = vec![in alloc; 0xff; 4_096]?;
+    let mut disk = MemDisk::new(content, fails);
+    Ok(mkfs(&mut disk, 4, 2) == Err(MakeFault::Fault))
 }

@@ -1,4 +1,5 @@
 mod history;
+mod legal;
 mod refused;
 mod writes;
 

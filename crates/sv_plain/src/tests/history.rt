@@ -1,5 +1,5 @@
 // A whole history, step by step.
-ghost use Rattle.std.specs.Prelude.{◌≡◌, IfOk};
+ghost use Rattle.std.specs.Prelude.{◌≡◌, ◌≤◌, IfOk};
 ghost use Rattle.std.specs.FinMap as map;
 ghost use Rattle.sv_plain.specs.Whole.{IsWhole};
 
@@ -25,12 +25,13 @@ fn new_tree(alloc: Global) -> Result<Fs, NoMemory>
     Ok(fs)
 }
 
-// The same, with one process and 100 places in the table.
-pub(super) fn begun(alloc: Global) -> Result<Fs, NoMemory>
+// The same, with one process and so many places in the table.
+pub(super) fn begun(alloc: Global, table: u32) -> Result<Fs, NoMemory>
+    requires { 1 ≤ table }
     ensures { IfOk result IsWhole }
 {
     let mut fs = new_tree(alloc)?;
-    begin(alloc, &mut fs, 1, 100)?;
+    begin(alloc, &mut fs, 1, table)?;
     Ok(fs)
 }
 
@@ -166,7 +167,7 @@ pub(super) fn name(from: &[u8]) -> Result<Name, Illegal> {
     Name::read(from).ok_or(Illegal::Condition)
 }
 
-fn bytes(alloc: Global, from: &[u8]) -> Result<Bytes, Illegal> {
+pub(super) fn bytes(alloc: Global, from: &[u8]) -> Result<Bytes, Illegal> {
     match Vec::from_slice(alloc, from) {
         Ok(bytes) => Ok(Bytes::from_vec(bytes)),
         Err(_) => Err(Illegal::NoMemory),
@@ -189,20 +190,36 @@ fn run(fs: &mut Fs, alloc: Global) -> Result<(), Illegal>
     apply(alloc, fs, 0, &Op::Purge, &Reply::Done)
 }
 
+// The text of the tree.
+pub(super) fn text_of(fs: &Fs, alloc: Global) -> Result<Vec<u8>, Illegal> {
+    match listing(alloc, fs) {
+        Ok(text) => Ok(text),
+        Err(_) => Err(Illegal::NoMemory),
+    }
+}
+
+fn run_and_list(fs: &mut Fs, alloc: Global) -> Result<Vec<u8>, Illegal>
+    requires { IsWhole fs.old }
+{
+    run(fs, alloc)?;
+    text_of(fs, alloc)
+}
+
+// What the history leaves.
+fn listed(alloc: Global) -> Result<Vec<u8>, Illegal> {
+    let Ok(mut fs) = begun(alloc, 100) else {
+        return Err(Illegal::NoMemory);
+    };
+    run_and_list(&mut fs, alloc)
+}
+
 #[test]
 fn a_history_leaves_its_listing(rt: HostRuntime) {
-    let alloc = rt.alloc();
     let want = b"inode 2 d 755 links 3 size 48 pages 1
 inode 3 d 755 links 2 size 48 pages 1
 inode 4 f 644 links 1 size 6 pages 1
 ";
-    let Ok(mut fs) = begun(alloc) else {
-        assert!(rt; false);
-        return;
-    };
-    let outcome = run(&mut fs, alloc);
-    assert_eq!(rt; outcome, Ok(()));
-    match listing(alloc, &fs) {
+    match listed(rt.alloc()) {
         Ok(text) => assert_eq!(rt; text.as_slice(), want.as_slice()),
         Err(_) => assert!(rt; false),
     }

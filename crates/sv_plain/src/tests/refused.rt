@@ -4,7 +4,6 @@ ghost use Rattle.sv_plain.specs.Whole.{IsWhole};
 use super::history::{begun, make, name, take_all};
 use crate::{Fs, Illegal, Mode, Need, Op, Reply, apply};
 use std::alloc::Global;
-use std::test::Fail;
 use sv_form::{Bytes, Kind, Name};
 
 // A step, and why it is refused.
@@ -279,30 +278,51 @@ fn late_purge(fs: &mut Fs, alloc: Global) -> Result<Option<Illegal>, Illegal>
     Ok(apply(alloc, fs, 0, &Op::Purge, &Reply::Late).err())
 }
 
-#[test]
-fn names_and_links(rt: HostRuntime) -> Result<(), Fail> {
-    let mut fs = begun(rt.alloc())?;
-    assert_eq!(rt; names_refused(&mut fs, rt.alloc()), Ok([None; 6]));
-    Ok(())
+// The first step of each table of names that is not refused.
+fn names_in_new_tree(alloc: Global) -> Result<[Option<usize>; 6], Illegal> {
+    let Ok(mut fs) = begun(alloc, 100) else {
+        return Err(Illegal::NoMemory);
+    };
+    names_refused(&mut fs, alloc)
+}
+
+fn pending_in_new_tree(alloc: Global) -> Result<Option<usize>, Illegal> {
+    let Ok(mut fs) = begun(alloc, 100) else {
+        return Err(Illegal::NoMemory);
+    };
+    pending_refused(&mut fs, alloc)
+}
+
+fn files_in_new_tree(alloc: Global) -> Result<[Option<usize>; 4], Illegal> {
+    let Ok(mut fs) = begun(alloc, 100) else {
+        return Err(Illegal::NoMemory);
+    };
+    files_refused(&mut fs, alloc)
+}
+
+fn late_in_new_tree(alloc: Global) -> Result<Option<Illegal>, Illegal> {
+    let Ok(mut fs) = begun(alloc, 100) else {
+        return Err(Illegal::NoMemory);
+    };
+    late_purge(&mut fs, alloc)
 }
 
 #[test]
-fn pending_link(rt: HostRuntime) -> Result<(), Fail> {
-    let mut fs = begun(rt.alloc())?;
-    assert_eq!(rt; pending_refused(&mut fs, rt.alloc()), Ok(None));
-    Ok(())
+fn names_and_links(rt: HostRuntime) {
+    assert_eq!(rt; names_in_new_tree(rt.alloc()), Ok([None; 6]));
 }
 
 #[test]
-fn open_file(rt: HostRuntime) -> Result<(), Fail> {
-    let mut fs = begun(rt.alloc())?;
-    assert_eq!(rt; files_refused(&mut fs, rt.alloc()), Ok([None; 4]));
-    Ok(())
+fn pending_link(rt: HostRuntime) {
+    assert_eq!(rt; pending_in_new_tree(rt.alloc()), Ok(None));
 }
 
 #[test]
-fn purge_that_came_late(rt: HostRuntime) -> Result<(), Fail> {
-    let mut fs = begun(rt.alloc())?;
-    assert_eq!(rt; late_purge(&mut fs, rt.alloc()), Ok(Some(REPLY)));
-    Ok(())
+fn open_file(rt: HostRuntime) {
+    assert_eq!(rt; files_in_new_tree(rt.alloc()), Ok([None; 4]));
+}
+
+#[test]
+fn purge_that_came_late(rt: HostRuntime) {
+    assert_eq!(rt; late_in_new_tree(rt.alloc()), Ok(Some(REPLY)));
 }
