@@ -37,7 +37,7 @@ own-path g page pos is =
     subst P (sym (path-is g there.0 page there.1.0 there.1.1)) there.1
 
 at-page : (g : Geometry) (h : Held) (a : List ℕ) (page : ℕ) → page_block g h a page ≡ block_at h a (page_slot g page) (page_places g page)
-unfolding page_block
+unfolding Rattle.sv_form.specs.AddressTree.page_block
 at-page g h a page = refl
 
 -- the blocks of the row are those that are missing on the way to the page

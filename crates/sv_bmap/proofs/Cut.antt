@@ -11,6 +11,7 @@ use Rattle.sv_form.specs.declared.geometry.Geometry.{Geometry}
 use Rattle.sv_form.specs.declared.page_path.PagePath.TheVariants.{Triple}
 use Rattle.sv_store.specs.Held.{Held, Lent, Origin, HoldsBlock, covers, in_ranges, rest}
 use Rattle.sv_store.specs.Calls.{CanPart, Parts}
+use Rattle.sv_store.specs.Numbered.{Numbers}
 use Rattle.sv_store.proofs.Holding.{CanPart-range, IsSome-given, IsSome-kept, eqb_same, in_range-other, is_some-rest, is_some-chosen, none_from}
 use Rattle.sv_bmap.specs.Attach.{CanAttach}
 use Rattle.sv_bmap.specs.Cut.{IsCut}
@@ -23,6 +24,10 @@ use Rattle.sv_bmap.proofs.Needs.{tree-after}
 
 no : (x y : ℕ) → (x == y) ≡ false → x ≢ y
 no x y h = grind (nat_tests, arith)
+
+-- where a stake in memory comes from
+abbrev pub origin_of : Numbers → Geometry → Origin
+origin_of numbers sizes = record { id = numbers.fails; sizes = sizes }
 
 -- all sixteen lines of a block
 abbrev pub all_of : ℕ → LineRange
@@ -180,7 +185,7 @@ need-far g h size =
     need-zeros g h thirteen (Triple 0 0 0) 65802 (omega (arith, n-is), omega (arith, n-is), omega (arith, n-is)) (ap (λ (n : ℕ). first_triple n + ((0 * n + 0) * n + 0)) n-is) ∙ hole-zeros h 0 (0 ∷ 0 ∷ 0 ∷ []) refl
 
 hole-page : (g : Geometry) (h : Held) (page : ℕ) → page_block g h thirteen page ≡ 0
-unfolding page_block
+unfolding Rattle.sv_form.specs.AddressTree.page_block
 hole-page g h page = down-hole h (get_or thirteen (slot_of (path (block_numbers g) page)) 0) (places_of (path (block_numbers g) page)) (zeros (slot_of (path (block_numbers g) page)))
 
 four : (P : ℕ → ℕ → Type 0) → P 0 100 → P 1 101 → P 2 102 → P 3 103 → (i : ℕ) → i < 4 → P i (get_or (100 ∷ 101 ∷ 102 ∷ 103 ∷ []) i 0)

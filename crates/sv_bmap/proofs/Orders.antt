@@ -27,15 +27,15 @@ apart : (a b : ℕ) → a ≢ b → (a == b) ≡ false
 apart a b h = grind (nat_tests, arith)
 
 pub page-below : (n : ℕ) (h : Held) (b : ℕ) → blocks_below n h 0 b ≡ cond (b == 0) [] (b ∷ [])
-unfolding blocks_below
+unfolding Rattle.sv_form.specs.AddressTree.blocks_below
 page-below n h b = refl
 
 pub below-there : (n : ℕ) (h : Held) (d b : ℕ) → b ≢ 0 → blocks_below n h (suc d) b ≡ flat_map (λ k. blocks_below n h d (child h b k)) (range_with_len 0 n) ++ b ∷ []
-unfolding blocks_below
+unfolding Rattle.sv_form.specs.AddressTree.blocks_below
 below-there n h d b some = ap (λ q. cond q [] (flat_map (λ k. blocks_below n h d (child h b k)) (range_with_len 0 n) ++ b ∷ [])) (apart b 0 some)
 
 pub below-hole : (n : ℕ) (h : Held) (d b : ℕ) → b ≡ 0 → blocks_below n h (suc d) b ≡ []
-unfolding blocks_below
+unfolding Rattle.sv_form.specs.AddressTree.blocks_below
 below-hole n h d b e = ap (λ q. cond (q == 0) [] (flat_map (λ k. blocks_below n h d (child h q k)) (range_with_len 0 n) ++ q ∷ [])) e
 
 pub nothing-added : (n : ℕ) (h : Held) (d b : ℕ) (start : List ℕ) → b ≡ 0 → start ≡ start ++ blocks_below n h (suc d) b
@@ -76,7 +76,7 @@ tree-below tree slot d low high = record { at = λ ks deep each some. tree.whole
 
 -- the pages, and what is under the three indirect addresses, one after another
 pub joined : (g : Geometry) (h : Held) (a : List ℕ) {start pages one two all : List ℕ} → start ≡ [] → pages ≡ start ++ flat_map (λ slot. cond (get_or a slot 0 == 0) [] (get_or a slot 0 ∷ [])) (range_with_len 0 first_single) → one ≡ pages ++ blocks_below (block_numbers g) h 1 (get_or a 10 0) → two ≡ one ++ blocks_below (block_numbers g) h 2 (get_or a 11 0) → all ≡ two ++ blocks_below (block_numbers g) h 3 (get_or a 12 0) → all ≡ blocks_of g h a
-unfolding blocks_below
+unfolding Rattle.sv_form.specs.AddressTree.blocks_below
 joined g h a {start} {pages} {one} {two} {all} p q r s t =
     t
     ∙ ap (λ x. x ++ blocks_below (block_numbers g) h 3 (get_or a 12 0))

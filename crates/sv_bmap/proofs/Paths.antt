@@ -98,11 +98,11 @@ holds-same {o} {o'} {h} {h'} b p q holds =
     subst P (sym p) (subst Q (sym q) holds)
 
 pub child-hole : (h : Held) (b k : ℕ) → b ≡ 0 → child h b k ≡ 0
-unfolding child
+unfolding Rattle.sv_form.specs.AddressTree.child
 child-hole h b k e = ap (λ q. cond (q == 0) 0 (number_in h q k)) e
 
 pub child-there : (h : Held) (b k : ℕ) → b ≢ 0 → child h b k ≡ number_in h b k
-unfolding child
+unfolding Rattle.sv_form.specs.AddressTree.child
 child-there h b k some = ap (λ q. cond q 0 (number_in h b k)) (apart b 0 some)
   where
     apart : (a b : ℕ) → a ≢ b → (a == b) ≡ false
@@ -113,7 +113,7 @@ index-in g g' i j e low same = let P : Geometry → Type 0 = λ q. j < block_num
 
 -- the block of a page is where its path leads
 pub page-block-is : (g g' : Geometry) (h : Held) (a : List ℕ) (p : PagePath) (page : ℕ) → g' ≡ g → IsPath g' p → page_of g' p ≡ page → page_block g h a page ≡ block_at h a (slot_of p) (places_of p)
-unfolding page_block
+unfolding Rattle.sv_form.specs.AddressTree.page_block
 page-block-is g g' h a p page e is at =
     ap (λ q. block_at h a (slot_of (path (block_numbers q) page)) (places_of (path (block_numbers q) page))) (sym e)
     ∙ ap (λ q. block_at h a (slot_of q) (places_of q)) (path-is g' p page is at)

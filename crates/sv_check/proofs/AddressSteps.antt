@@ -17,7 +17,7 @@ module _ (g : Geometry) (image inode : List ℕ) where
   under_from k = flat_map under (from_on has_address 13 k)
 
   pub under-all : reached g image inode ≡ under_from 0
-  unfolding reached
+  unfolding Rattle.sv_form.specs.AddressTree.reached
   under-all = ap (flat_map under) (from_on-all has_address 13)
 
   pub under-skip : (k : ℕ) → k < 13 → address_of inode k ≡ 0 → under_from k ≡ under_from (k + 1)

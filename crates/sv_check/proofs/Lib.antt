@@ -1,30 +1,30 @@
 mod AddressSteps
 mod BlockBytes
-mod BooleanTests
-mod CacheSteps
-mod ChainMet
-mod ChainStart
-mod ChainWalk
+pub mod BooleanTests
+pub mod CacheSteps
+pub mod ChainMet
+pub mod ChainStart
+pub mod ChainWalk
 mod ClimbSteps
 mod DirectorySteps
 mod EntryFlaws
 mod EntryParts
-mod EntryReads
+pub mod EntryReads
 mod EntryTakes
 pub mod FileBlocks
 pub mod FileTexts
 mod FileWalks
-mod Flaws
+pub mod Flaws
 mod FreeBlocks
 mod GoodEntries
-mod InodeReads
-mod InodeSteps
+pub mod InodeReads
+pub mod InodeSteps
 mod KeptDirectories
 pub mod LineReads
-mod ListReads
+pub mod ListReads
 mod LoadSteps
 mod LoadedNodes
-mod LoadedTree
+pub mod LoadedTree
 mod LoadsLeft
 mod MadeImages
 mod MadeRows
@@ -43,22 +43,23 @@ mod SeenSteps
 mod SizedImages
 pub mod SizeFlaws
 mod SmallImages
-mod SoundParts
+pub mod SoundParts
 mod StandingSteps
 mod ToldDots
 mod ToldEntries
 mod ToldPlaces
 mod ToldTimes
-mod TreeBytes
-mod TreeCounts
-mod TreeDirectories
-mod TreeNamings
-mod TreeNodes
+pub mod TreeBytes
+pub mod TreeCounts
+pub mod TreeDirectories
+pub mod TreeNamings
+pub mod TreeNodes
+pub mod WalkMet
 mod WalkSteps
 mod WholeBlocks
 mod WholeEntries
-mod WholeNodes
-mod WholeTree
+pub mod WholeNodes
+pub mod WholeTree
 mod WholeWalk
 mod MadeCache
 mod MadeDirectories
@@ -73,3 +74,4 @@ mod MadeSound
 mod MadeSuper
 mod MadeWalk
 mod SpelledNumbers
+mod FreedLists

@@ -120,7 +120,7 @@ module _ (g : Geometry) (image inode : List ℕ) where
 module _ (g : Geometry) (image : List ℕ) (page b : ℕ) where
   -- the block itself lies in the image
   pub first_inside : (height : ℕ) → list_all (is_inside g) (reached_under g image height page b) ≡ true → b < g.blocks
-  unfolding reached_under
+  unfolding Rattle.sv_form.specs.AddressTree.reached_under
   first_inside zero all = inside-first g zero page b [] all
   first_inside (suc h) all =
       inside-first g (suc h) page b (flat_map (λ k. reached_under g image h (page + k * block_numbers g ^ h) (number_in (block_of g image b) k)) (filled g (block_of g image b))) all

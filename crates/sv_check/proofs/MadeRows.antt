@@ -27,20 +27,20 @@ image_of head inodes last_list =
 
 -- no condition fails
 pub made_image : flaw_from_4 (image_of head_a (free_inode ++ inode directory_755 2 32 (4 ∷ [])) (list_from 0)) ≡ None
-unfolding block_of line_of superblock_of used_inodes kind_flaw size_flaw reached_under reached walk first_bad range_flaw twice_flaw past_size_flaw tail_flaw chain_from chain first_broken chain_flaw lost_flaw first_uncacheable cache_flaw root_flaw directories contents entries entry_flaw namings rises_to_root dots_flaw links_flaw flaw_from_4
+unfolding block_of line_of superblock_of used_inodes kind_flaw size_flaw Rattle.sv_form.specs.AddressTree.reached_under Rattle.sv_form.specs.AddressTree.reached walk first_bad range_flaw twice_flaw past_size_flaw tail_flaw chain_from chain first_broken chain_flaw lost_flaw first_uncacheable cache_flaw root_flaw directories contents entries entry_flaw namings rises_to_root dots_flaw links_flaw flaw_from_4
 made_image = refl
 
 -- inode 3 is a file of 1,024 bytes whose first address is 4
 pub file_in_root_page : flaw_from_4 (image_of head_a (free_inode ++ inode directory_755 2 32 (4 ∷ []) ++ inode file_644 1 1024 (4 ∷ [])) (list_from 0)) ≡ Some (7, 4)
-unfolding block_of line_of superblock_of used_inodes kind_flaw size_flaw reached_under reached walk first_bad range_flaw twice_flaw past_size_flaw tail_flaw chain_from chain first_broken chain_flaw lost_flaw first_uncacheable cache_flaw root_flaw directories contents entries entry_flaw namings rises_to_root dots_flaw links_flaw flaw_from_4
+unfolding block_of line_of superblock_of used_inodes kind_flaw size_flaw Rattle.sv_form.specs.AddressTree.reached_under Rattle.sv_form.specs.AddressTree.reached walk first_bad range_flaw twice_flaw past_size_flaw tail_flaw chain_from chain first_broken chain_flaw lost_flaw first_uncacheable cache_flaw root_flaw directories contents entries entry_flaw namings rises_to_root dots_flaw links_flaw flaw_from_4
 file_in_root_page = refl
 
 -- the link of block 14's list is 14
 pub chain_to_itself : flaw_from_4 (image_of head_a (free_inode ++ inode directory_755 2 32 (4 ∷ [])) (list_from 14)) ≡ Some (10, 14)
-unfolding block_of line_of superblock_of used_inodes kind_flaw size_flaw reached_under reached walk first_bad range_flaw twice_flaw past_size_flaw tail_flaw chain_from chain first_broken chain_flaw lost_flaw first_uncacheable cache_flaw root_flaw directories contents entries entry_flaw namings rises_to_root dots_flaw links_flaw flaw_from_4
+unfolding block_of line_of superblock_of used_inodes kind_flaw size_flaw Rattle.sv_form.specs.AddressTree.reached_under Rattle.sv_form.specs.AddressTree.reached walk first_bad range_flaw twice_flaw past_size_flaw tail_flaw chain_from chain first_broken chain_flaw lost_flaw first_uncacheable cache_flaw root_flaw directories contents entries entry_flaw namings rises_to_root dots_flaw links_flaw flaw_from_4
 chain_to_itself = refl
 
 -- the root has 3 links
 pub three_links : flaw_from_4 (image_of head_a (free_inode ++ inode directory_755 3 32 (4 ∷ [])) (list_from 0)) ≡ Some (16, 2)
-unfolding block_of line_of superblock_of used_inodes kind_flaw size_flaw reached_under reached walk first_bad range_flaw twice_flaw past_size_flaw tail_flaw chain_from chain first_broken chain_flaw lost_flaw first_uncacheable cache_flaw root_flaw directories contents entries entry_flaw namings rises_to_root dots_flaw links_flaw flaw_from_4
+unfolding block_of line_of superblock_of used_inodes kind_flaw size_flaw Rattle.sv_form.specs.AddressTree.reached_under Rattle.sv_form.specs.AddressTree.reached walk first_bad range_flaw twice_flaw past_size_flaw tail_flaw chain_from chain first_broken chain_flaw lost_flaw first_uncacheable cache_flaw root_flaw directories contents entries entry_flaw namings rises_to_root dots_flaw links_flaw flaw_from_4
 three_links = refl

@@ -75,7 +75,7 @@ root_addressed page some =
     ap (λ (t : Bool). cond t (0 ∷ []) []) first
 
 root_reached : (g : Geometry) (image : List ℕ) (page : ℕ) → page ≢ 0 → reached g image (root_inode page) ≡ record { height = 0; page = 0; block = page } ∷ []
-unfolding reached reached_under
+unfolding Rattle.sv_form.specs.AddressTree.reached Rattle.sv_form.specs.AddressTree.reached_under
 root_reached g image page some =
     ap (λ (ks : List ℕ). flat_map (λ k. reached_under g image (height_of k) (first_page g k) (address_of (root_inode page) k)) ks) (root_addressed page some)
     ∙ ap (λ (b : ℕ). record { height = 0; page = 0; block = b } ∷ []) (root_address page)

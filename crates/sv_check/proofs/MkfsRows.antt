@@ -48,9 +48,9 @@ no_free_block = refl
 
 -- no condition fails on the smallest image, nor on one whose inode list leaves only the root's page
 pub smallest_is_sound : flaw_from_4 (made_image 4 2) ≡ None
-unfolding block_of line_of superblock_of used_inodes kind_flaw size_flaw reached_under reached walk first_bad range_flaw twice_flaw past_size_flaw tail_flaw chain_from chain first_broken chain_flaw lost_flaw first_uncacheable cache_flaw root_flaw directories contents entries entry_flaw namings rises_to_root dots_flaw links_flaw flaw_from_4 block_content link_block_bytes root_inode_bytes root_page_bytes superblock_bytes
+unfolding block_of line_of superblock_of used_inodes kind_flaw size_flaw Rattle.sv_form.specs.AddressTree.reached_under Rattle.sv_form.specs.AddressTree.reached walk first_bad range_flaw twice_flaw past_size_flaw tail_flaw chain_from chain first_broken chain_flaw lost_flaw first_uncacheable cache_flaw root_flaw directories contents entries entry_flaw namings rises_to_root dots_flaw links_flaw flaw_from_4 block_content link_block_bytes root_inode_bytes root_page_bytes superblock_bytes
 smallest_is_sound = refl
 
 pub one_data_block_is_sound : flaw_from_4 (made_image 8 80) ≡ None
-unfolding block_of line_of superblock_of used_inodes kind_flaw size_flaw reached_under reached walk first_bad range_flaw twice_flaw past_size_flaw tail_flaw chain_from chain first_broken chain_flaw lost_flaw first_uncacheable cache_flaw root_flaw directories contents entries entry_flaw namings rises_to_root dots_flaw links_flaw flaw_from_4 block_content link_block_bytes root_inode_bytes root_page_bytes superblock_bytes
+unfolding block_of line_of superblock_of used_inodes kind_flaw size_flaw Rattle.sv_form.specs.AddressTree.reached_under Rattle.sv_form.specs.AddressTree.reached walk first_bad range_flaw twice_flaw past_size_flaw tail_flaw chain_from chain first_broken chain_flaw lost_flaw first_uncacheable cache_flaw root_flaw directories contents entries entry_flaw namings rises_to_root dots_flaw links_flaw flaw_from_4 block_content link_block_bytes root_inode_bytes root_page_bytes superblock_bytes
 one_data_block_is_sound = refl

@@ -34,40 +34,40 @@ image_of links_2 page_2 links_3 page_3 links_4 page_4 size =
 
 -- directory 3 stands in the root, and 4 in 3
 pub nested : flaw_from_4 (image_of 3 (entry 2 dot ++ entry 2 dots ++ entry 3 d) 3 (entry 3 dot ++ entry 2 dots ++ entry 4 e) 2 (entry 4 dot ++ entry 3 dots) 48) ≡ None
-unfolding block_of line_of superblock_of used_inodes kind_flaw size_flaw reached_under reached walk first_bad range_flaw twice_flaw past_size_flaw tail_flaw chain_from chain first_broken chain_flaw lost_flaw first_uncacheable cache_flaw root_flaw directories contents entries entry_flaw namings rises_to_root dots_flaw links_flaw flaw_from_4
+unfolding block_of line_of superblock_of used_inodes kind_flaw size_flaw Rattle.sv_form.specs.AddressTree.reached_under Rattle.sv_form.specs.AddressTree.reached walk first_bad range_flaw twice_flaw past_size_flaw tail_flaw chain_from chain first_broken chain_flaw lost_flaw first_uncacheable cache_flaw root_flaw directories contents entries entry_flaw namings rises_to_root dots_flaw links_flaw flaw_from_4
 nested = refl
 
 -- directories 3 and 4 stand in one another, and no way leads from them to the root
 pub circle : flaw_from_4 (image_of 2 (entry 2 dot ++ entry 2 dots) 3 (entry 3 dot ++ entry 4 dots ++ entry 4 e) 3 (entry 4 dot ++ entry 3 dots ++ entry 3 d) 48) ≡ Some (15, 3)
-unfolding block_of line_of superblock_of used_inodes kind_flaw size_flaw reached_under reached walk first_bad range_flaw twice_flaw past_size_flaw tail_flaw chain_from chain first_broken chain_flaw lost_flaw first_uncacheable cache_flaw root_flaw directories contents entries entry_flaw namings rises_to_root dots_flaw links_flaw flaw_from_4
+unfolding block_of line_of superblock_of used_inodes kind_flaw size_flaw Rattle.sv_form.specs.AddressTree.reached_under Rattle.sv_form.specs.AddressTree.reached walk first_bad range_flaw twice_flaw past_size_flaw tail_flaw chain_from chain first_broken chain_flaw lost_flaw first_uncacheable cache_flaw root_flaw directories contents entries entry_flaw namings rises_to_root dots_flaw links_flaw flaw_from_4
 circle = refl
 
 -- the `..` of directory 4 names the root, and 4 stands in 3
 pub wrong_dots : flaw_from_4 (image_of 4 (entry 2 dot ++ entry 2 dots ++ entry 3 d) 2 (entry 3 dot ++ entry 2 dots ++ entry 4 e) 2 (entry 4 dot ++ entry 2 dots) 48) ≡ Some (15, 4)
-unfolding block_of line_of superblock_of used_inodes kind_flaw size_flaw reached_under reached walk first_bad range_flaw twice_flaw past_size_flaw tail_flaw chain_from chain first_broken chain_flaw lost_flaw first_uncacheable cache_flaw root_flaw directories contents entries entry_flaw namings rises_to_root dots_flaw links_flaw flaw_from_4
+unfolding block_of line_of superblock_of used_inodes kind_flaw size_flaw Rattle.sv_form.specs.AddressTree.reached_under Rattle.sv_form.specs.AddressTree.reached walk first_bad range_flaw twice_flaw past_size_flaw tail_flaw chain_from chain first_broken chain_flaw lost_flaw first_uncacheable cache_flaw root_flaw directories contents entries entry_flaw namings rises_to_root dots_flaw links_flaw flaw_from_4
 wrong_dots = refl
 
 -- directory 3 stands in the root twice
 pub named_twice : flaw_from_4 (image_of 3 (entry 2 dot ++ entry 2 dots ++ entry 3 d ++ entry 3 e) 3 (entry 3 dot ++ entry 2 dots ++ entry 4 e) 2 (entry 4 dot ++ entry 3 dots) 64) ≡ Some (15, 3)
-unfolding block_of line_of superblock_of used_inodes kind_flaw size_flaw reached_under reached walk first_bad range_flaw twice_flaw past_size_flaw tail_flaw chain_from chain first_broken chain_flaw lost_flaw first_uncacheable cache_flaw root_flaw directories contents entries entry_flaw namings rises_to_root dots_flaw links_flaw flaw_from_4
+unfolding block_of line_of superblock_of used_inodes kind_flaw size_flaw Rattle.sv_form.specs.AddressTree.reached_under Rattle.sv_form.specs.AddressTree.reached walk first_bad range_flaw twice_flaw past_size_flaw tail_flaw chain_from chain first_broken chain_flaw lost_flaw first_uncacheable cache_flaw root_flaw directories contents entries entry_flaw namings rises_to_root dots_flaw links_flaw flaw_from_4
 named_twice = refl
 
 -- entry 1 of directory 3 has another name, so nothing leads on from it; 4 stands in 3
 pub no_dots : flaw_from_4 (image_of 3 (entry 2 dot ++ entry 2 dots ++ entry 3 d) 3 (entry 3 dot ++ entry 2 d ++ entry 4 e) 2 (entry 4 dot ++ entry 3 dots) 48) ≡ Some (15, 3)
-unfolding block_of line_of superblock_of used_inodes kind_flaw size_flaw reached_under reached walk first_bad range_flaw twice_flaw past_size_flaw tail_flaw chain_from chain first_broken chain_flaw lost_flaw first_uncacheable cache_flaw root_flaw directories contents entries entry_flaw namings rises_to_root dots_flaw links_flaw flaw_from_4
+unfolding block_of line_of superblock_of used_inodes kind_flaw size_flaw Rattle.sv_form.specs.AddressTree.reached_under Rattle.sv_form.specs.AddressTree.reached walk first_bad range_flaw twice_flaw past_size_flaw tail_flaw chain_from chain first_broken chain_flaw lost_flaw first_uncacheable cache_flaw root_flaw directories contents entries entry_flaw namings rises_to_root dots_flaw links_flaw flaw_from_4
 no_dots = refl
 
 -- entry 0 of directory 4 names directory 3
 pub no_dot : flaw_from_4 (image_of 3 (entry 2 dot ++ entry 2 dots ++ entry 3 d) 3 (entry 3 dot ++ entry 2 dots ++ entry 4 e) 2 (entry 3 dot ++ entry 3 dots) 48) ≡ Some (15, 4)
-unfolding block_of line_of superblock_of used_inodes kind_flaw size_flaw reached_under reached walk first_bad range_flaw twice_flaw past_size_flaw tail_flaw chain_from chain first_broken chain_flaw lost_flaw first_uncacheable cache_flaw root_flaw directories contents entries entry_flaw namings rises_to_root dots_flaw links_flaw flaw_from_4
+unfolding block_of line_of superblock_of used_inodes kind_flaw size_flaw Rattle.sv_form.specs.AddressTree.reached_under Rattle.sv_form.specs.AddressTree.reached walk first_bad range_flaw twice_flaw past_size_flaw tail_flaw chain_from chain first_broken chain_flaw lost_flaw first_uncacheable cache_flaw root_flaw directories contents entries entry_flaw namings rises_to_root dots_flaw links_flaw flaw_from_4
 no_dot = refl
 
 -- entry 2 of directory 4 is the one that is `..`
 pub dots_later : flaw_from_4 (image_of 3 (entry 2 dot ++ entry 2 dots ++ entry 3 d) 3 (entry 3 dot ++ entry 2 dots ++ entry 4 e) 2 (entry 4 dot ++ entry 3 d ++ entry 3 dots) 48) ≡ Some (15, 3)
-unfolding block_of line_of superblock_of used_inodes kind_flaw size_flaw reached_under reached walk first_bad range_flaw twice_flaw past_size_flaw tail_flaw chain_from chain first_broken chain_flaw lost_flaw first_uncacheable cache_flaw root_flaw directories contents entries entry_flaw namings rises_to_root dots_flaw links_flaw flaw_from_4
+unfolding block_of line_of superblock_of used_inodes kind_flaw size_flaw Rattle.sv_form.specs.AddressTree.reached_under Rattle.sv_form.specs.AddressTree.reached walk first_bad range_flaw twice_flaw past_size_flaw tail_flaw chain_from chain first_broken chain_flaw lost_flaw first_uncacheable cache_flaw root_flaw directories contents entries entry_flaw namings rises_to_root dots_flaw links_flaw flaw_from_4
 dots_later = refl
 
 -- no entry names directory 4
 pub unnamed : flaw_from_4 (image_of 3 (entry 2 dot ++ entry 2 dots ++ entry 3 d) 2 (entry 3 dot ++ entry 2 dots) 2 (entry 4 dot ++ entry 3 dots) 48) ≡ Some (15, 4)
-unfolding block_of line_of superblock_of used_inodes kind_flaw size_flaw reached_under reached walk first_bad range_flaw twice_flaw past_size_flaw tail_flaw chain_from chain first_broken chain_flaw lost_flaw first_uncacheable cache_flaw root_flaw directories contents entries entry_flaw namings rises_to_root dots_flaw links_flaw flaw_from_4
+unfolding block_of line_of superblock_of used_inodes kind_flaw size_flaw Rattle.sv_form.specs.AddressTree.reached_under Rattle.sv_form.specs.AddressTree.reached walk first_bad range_flaw twice_flaw past_size_flaw tail_flaw chain_from chain first_broken chain_flaw lost_flaw first_uncacheable cache_flaw root_flaw directories contents entries entry_flaw namings rises_to_root dots_flaw links_flaw flaw_from_4
 unnamed = refl

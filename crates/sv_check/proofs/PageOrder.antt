@@ -67,7 +67,7 @@ module _ (g : Geometry) (image : List ℕ) where
       from_number (suc n) k e = one_number n k (has k) (from_number n (k + 1) (omega (arith, e)))
 
   pub under-ascends : (h page b : ℕ) → IsAscending page (pages_among (reached_under g image h page b)) (page + per ^ h)
-  unfolding reached_under
+  unfolding Rattle.sv_form.specs.AddressTree.reached_under
   under-ascends zero page b =
       let one : per ^ 0 ≡ 1 = pow-zero per in
       (omega arith, omega (arith, one))
@@ -159,5 +159,5 @@ module _ (g : Geometry) (image : List ℕ) where
         (one_address n k below (addressed_at k) (from_address n (k + 1) (omega (arith, e))))
 
     pub reached-ascends : IsAscending 0 (pages_among (reached g image inode)) top
-    unfolding reached
+    unfolding Rattle.sv_form.specs.AddressTree.reached
     reached-ascends = from_address 13 0 refl

@@ -150,7 +150,7 @@ module _ (g : Geometry) (image : List ℕ) (some : 1 ≤ block_numbers g) where
     joined (suc n) k each = join_step k n (has k) (each k (omega arith) (omega arith)) (joined n (k + 1) (λ j low high. each j (omega (arith, low)) (omega (arith, high))))
 
   level-zero : (p b : ℕ) → Whole 0 (reached_under g image 0 p b)
-  unfolding reached_under
+  unfolding Rattle.sv_form.specs.AddressTree.reached_under
   level-zero p b = (λ flat q e. e, tt)
 
   pick : (q : Block) (xs : List Block) (b : Block) → is_one q (xs ++ b ∷ []) ≡ true → (is_one q xs ≡ true) ⊎ (eq_by_cmp pair_cmp q b ≡ true)
@@ -178,13 +178,13 @@ module _ (g : Geometry) (image : List ℕ) (some : 1 ≤ block_numbers g) where
     no_suc k e = omega (arith, e)
 
     kids-ascend : IsAscending p (pages_among (reached_under g image (suc h) p b)) (p + per ^ suc h) → IsAscending p (pages_among kids) (p + per ^ suc h)
-    unfolding reached_under
+    unfolding Rattle.sv_form.specs.AddressTree.reached_under
     kids-ascend up = subst (λ (t : Bool). IsAscending p ((if t then record { page = p; block = b } ∷ [] else []) ++ pages_among kids) (p + per ^ suc h)) (above_zero h) up where
       above_zero : (k : ℕ) → (suc k == 0) ≡ false
       above_zero k = grind arith
 
     level-up : Whole (suc h) (reached_under g image (suc h) p b)
-    unfolding reached_under
+    unfolding Rattle.sv_form.specs.AddressTree.reached_under
     level-up =
         let all : Covers (lows h) (map code kids) kids =
         joined (lows h) (λ k. reached_under g image h (p + k * per ^ h) (number_in (block_of g image b) k)) (λ k. not (number_in (block_of g image b) k == 0)) per 0 each in
@@ -314,7 +314,7 @@ module _ (g : Geometry) (image : List ℕ) (some : 1 ≤ block_numbers g) where
         ]
 
     all-covered : Covers (blocks_at per) (map code (reached g image inode)) (reached g image inode)
-    unfolding reached
+    unfolding Rattle.sv_form.specs.AddressTree.reached
     all-covered = joined (blocks_at per) under (λ k. not (address_of inode k == 0)) 13 0 (λ j _ high. each-address j (omega (arith, high)))
 
     -- ---- the pages of the node

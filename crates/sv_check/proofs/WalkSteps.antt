@@ -139,7 +139,7 @@ module _ (g : Geometry) (image : List ℕ) (page b : ℕ) where
   below_from h k = flat_map (below h) (from_on has_number (block_numbers g) k)
 
   pub below-all : (height : ℕ) → height ≢ 0 → reached_under g image height page b ≡ record { height = height; page = page; block = b } ∷ below_from (height - 1) 0
-  unfolding reached_under
+  unfolding Rattle.sv_form.specs.AddressTree.reached_under
   below-all zero above = absurd (above refl)
   below-all (suc h) above =
       let one : h ≡ suc h - 1 = omega arith in
@@ -147,7 +147,7 @@ module _ (g : Geometry) (image : List ℕ) (page b : ℕ) where
       ∙ ap (λ (m : ℕ). record { height = suc h; page = page; block = b } ∷ below_from m 0) one
 
   pub below-page : (height : ℕ) → height ≡ 0 → reached_under g image height page b ≡ record { height = 0; page = page; block = b } ∷ []
-  unfolding reached_under
+  unfolding Rattle.sv_form.specs.AddressTree.reached_under
   below-page height e = ap (λ (h : ℕ). reached_under g image h page b) e
 
   pub below-skip : (h k : ℕ) → k < block_numbers g → number_in (block_of g image b) k ≡ 0 → below_from h k ≡ below_from h (k + 1)

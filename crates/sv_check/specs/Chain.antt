@@ -2,20 +2,14 @@
 use Rattle.std.specs.Prelude.{◌==◌, ◌&&◌, ◌+◌, ◌-◌, ◌*◌, ℕ, zero, suc, Bool, not, List, [], ◌∷◌, ◌++◌, map, take, drop, Option, Some, None, slice_index, nat_le, filter, find, flat_map, if◌then◌else◌}
 use Rattle.std.specs.List.{range_with_len, list_all}
 use Rattle.sv_form.specs.declared.geometry.Geometry.{Geometry}
+pub use Rattle.sv_form.specs.FreeChain.{list_in, numbers_at}
 use Rattle.sv_form.specs.Image.{block_of, superblock_of}
 use Rattle.sv_form.specs.Number.{number16, number32}
 use Rattle.sv_check.specs.Walk.{walk, is_among, with_met, is_new}
 
--- the numbers of a list whose count and table stand at these places
-abbrev pub numbers_at : List ℕ → ℕ → ℕ → List ℕ
-numbers_at bytes count_at at = map (λ k. number32 bytes (at + 4 * k)) (range_with_len 0 (number16 bytes count_at))
-
--- the list in the superblock, and the one in a link block
+-- the list in the superblock
 abbrev pub free_list : List ℕ → List ℕ
 free_list image = numbers_at (superblock_of image) 12 16
-
-abbrev pub list_in : List ℕ → List ℕ
-list_in block = numbers_at block 0 4
 
 -- number k of a link block is 0 exactly if the list ends before it; number 0, the link, may be 0
 abbrev pub is_filled : List ℕ → ℕ → Bool

@@ -4,8 +4,7 @@ use Rattle.std.specs.List.{range_with_len, list_any, list_all, enumerate_from}
 use Rattle.sv_form.specs.declared.geometry.Geometry.{Geometry}
 use Rattle.sv_form.specs.Geometry.{inode_count}
 use Rattle.sv_form.specs.Image.{block_of, inode_of}
-use Rattle.sv_form.specs.Node.{until_zero}
-use Rattle.sv_form.specs.Number.{number16}
+pub use Rattle.sv_form.specs.Entries.{pieces, named_by, name_in}
 use Rattle.sv_plain.specs.Front.{size_of}
 use Rattle.sv_plain.specs.Names.{some_and, same_bytes}
 use Rattle.sv_check.specs.InodeList.{inode_numbers, all_zero, is_free, is_directory}
@@ -40,21 +39,9 @@ has_no_hole g image inode = list_all (λ k. is_some (page_in g image (reached g 
 
 -- ---- the entries of a directory, of sixteen bytes each
 
--- so many pieces of sixteen bytes
-abbrev pub pieces : ℕ → List ℕ → List (List ℕ)
-pieces zero bytes = []
-pieces (suc n) bytes = take 16 bytes ∷ pieces n (drop 16 bytes)
-
 -- the entries of directory d, in order
 unfoldable pub entries : Geometry → List ℕ → ℕ → List (List ℕ)
 entries g image d = pieces (size_of (inode_of g image d) / 16) (contents g image (inode_of g image d))
-
--- the inode that an entry names, 0 where it is empty, and its name
-abbrev pub named_by : List ℕ → ℕ
-named_by entry = number16 entry 0
-
-abbrev pub name_in : List ℕ → List ℕ
-name_in entry = until_zero (drop 2 entry)
 
 -- an entry reads: it is zero bytes, or has a name without a slash, and zero bytes after it
 abbrev pub reads_entry : List ℕ → Bool

@@ -4,7 +4,8 @@ use Rattle.std.specs.FinMap as fmap
 use Rattle.sv_form.specs.declared.geometry.Geometry.{Geometry}
 use Rattle.sv_form.specs.Geometry.{IsDataBlock}
 use Rattle.sv_form.specs.Image.{geometry_of, inode_of}
-use Rattle.sv_form.specs.Node.{Node, bytes_of, is_dir}
+use Rattle.sv_form.specs.Node.{Node, is_dir}
+use Rattle.sv_form.specs.NodeEntries.{node_bytes}
 use Rattle.sv_check.specs.declared.pages.PageBlock.{PageBlock}
 use Rattle.sv_plain.specs.Front.{size_of}
 use Rattle.sv_check.specs.InodeList.{is_directory, is_free}
@@ -47,7 +48,7 @@ file_of image n = regular (fmap.get (tree image) n)
 
 -- the bytes of a node, as many as its size says
 abbrev pub text_of : List ℕ → Node → List ℕ
-text_of image node = bytes_of (geometry_of image).block_size node 0 node.size
+text_of image node = node_bytes (geometry_of image).block_size node
 
 -- the bytes of an inode are those of a regular file of this size, or of none
 abbrev pub ShowsFile : List ℕ → Option ℕ → Type 0

@@ -5,16 +5,18 @@ use Rattle.std.specs.List.{range_with_len, list_any}
 use Rattle.sv_form.specs.declared.geometry.Geometry.{Geometry}
 use Rattle.sv_form.specs.Image.{block_of, inode_of}
 use Rattle.sv_form.specs.Number.{number32}
-use Rattle.sv_form.specs.PagePath.{block_numbers, first_single, first_double, first_triple}
+use Rattle.sv_form.specs.AddressTree as tree
+pub use Rattle.sv_form.specs.AddressTree.{Reached}
+use Rattle.sv_form.specs.PagePath as path
+use Rattle.sv_form.specs.PagePath.{block_numbers, slots}
+pub use Rattle.sv_form.specs.PagePath.{height_of}
 use Rattle.sv_plain.specs.Front.{address_of}
 use Rattle.sv_check.specs.declared.met.Met.{Met}
 use Rattle.sv_check.specs.InodeList.{used_inodes}
 
--- a block that an inode reaches: a page at height 0, an indirect block above; and the page, or the first page below it
-pub record Reached : Type 0 where
-  pub height : ℕ
-  pub page : ℕ
-  pub block : ℕ
+-- the numbers in the blocks of an image
+abbrev pub image_numbers : Geometry → List ℕ → tree.Numbers
+image_numbers g image = tree.numbers_of (block_of g image)
 
 -- number k of an indirect block
 abbrev pub number_in : List ℕ → ℕ → ℕ
@@ -25,27 +27,20 @@ abbrev pub filled : Geometry → List ℕ → List ℕ
 filled g block = filter (λ k. not (number_in block k == 0)) (range_with_len 0 (block_numbers g))
 
 -- a block at a height, and all that is below it; the numbers of an indirect block follow it at once, in order
-unfoldable pub reached_under : Geometry → List ℕ → ℕ → ℕ → ℕ → List Reached
-reached_under g image zero page b = record { height = 0; page = page; block = b } ∷ []
-reached_under g image (suc h) page b =
-    record { height = suc h; page = page; block = b }
-    ∷ flat_map (λ k. reached_under g image h (page + k * block_numbers g ^ h) (number_in (block_of g image b) k)) (filled g (block_of g image b))
-
--- The height of the block at address k: ten of them name pages, and the next three are one, two and three levels above.
-abbrev pub height_of : ℕ → ℕ
-height_of k = k + 1 - first_single
+abbrev pub reached_under : Geometry → List ℕ → ℕ → ℕ → ℕ → List Reached
+reached_under g image h page b = tree.reached_under (block_numbers g) (image_numbers g image) h page b
 
 -- the page that address k leads to, or the first of them
 abbrev pub first_page : Geometry → ℕ → ℕ
-first_page g k = if nat_le k first_single then k else (if k == 11 then first_double (block_numbers g) else first_triple (block_numbers g))
+first_page g k = path.first_page (block_numbers g) k
 
 -- the addresses of an inode that are not 0
 abbrev pub addressed : List ℕ → List ℕ
-addressed inode = filter (λ k. not (address_of inode k == 0)) (range_with_len 0 13)
+addressed inode = filter (λ k. not (address_of inode k == 0)) (range_with_len 0 slots)
 
 -- all blocks that an inode reaches, in the order of its addresses
-unfoldable pub reached : Geometry → List ℕ → List ℕ → List Reached
-reached g image inode = flat_map (λ k. reached_under g image (height_of k) (first_page g k) (address_of inode k)) (addressed inode)
+abbrev pub reached : Geometry → List ℕ → List ℕ → List Reached
+reached g image inode = tree.reached (block_numbers g) (image_numbers g image) (address_of inode)
 
 -- what the walk meets of inode n
 abbrev pub met_of : Geometry → List ℕ → ℕ → List Met

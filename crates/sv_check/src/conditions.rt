@@ -1,10 +1,10 @@
 // The check of an image, condition by condition.
 ghost use Rattle.std.specs.Prelude.{◌≡◌, ◌≤◌, ◌+◌, ⊤, ℕ, None, map, length, slice_index, IfOk, IfErr, OnOk};
 ghost use Rattle.sv_dev.specs.Causes.{Rose};
-ghost use Rattle.sv_form.specs.Geometry.{inode_count};
+ghost use Rattle.sv_form.specs.Geometry.{inode_count, line_count};
 ghost use Rattle.sv_form.specs.Image.{geometry_of, inode_of, superblock_of};
 ghost use Rattle.sv_form.specs.Superblock.{IsSuper};
-ghost use Rattle.sv_check.specs.BlockOwners.{block_owner};
+ghost use Rattle.sv_check.specs.BlockOwners.{block_owner, line_owners};
 ghost use Rattle.sv_check.specs.Chain.{chain_flaw, walked};
 ghost use Rattle.sv_check.specs.Directories.{directories};
 ghost use Rattle.sv_check.specs.Fault.{Says};
@@ -47,17 +47,82 @@ pub fn check<D: Disk>(alloc: Global, disk: &mut D) -> Result<Mounted, CheckFault
     let head = read_sizes(disk)?;
     let sizes = head.geometry();
     let mut block = vec![in alloc; 0; sizes.block_size as usize]?;
-    let list = check_inodes(alloc, disk, &sizes, &mut block)?;
-    let walk = check_blocks(alloc, disk, &sizes, &mut block)?;
-    check_free(alloc, disk, &sizes, &head, &list, &walk.walk.owner)?;
-    check_names(alloc, disk, &sizes, &list, &walk.directories, &mut block)?;
-    let owners = line_owners(alloc, &sizes, &list.used, &walk.walk.owner)?;
+    let shown = check_sized(alloc, disk, &sizes, &head, &mut block)?;
     Ok(Mounted {
         geometry: sizes,
         head,
-        owners: Owners::from_vec(sizes, owners),
+        owners: Owners::from_vec(sizes, shown.owners),
+        used: shown.used,
+    })
+}
+
+// What a sound image shows: the owner of each line, and which inodes are used.
+#[derive(Drop)]
+struct Shown {
+    owners: Vec<u16>,
+    used: Vec<bool>,
+}
+
+// The conditions 4 to 16, where the first three hold. The slice has a block's length.
+fn check_sized<D: Disk>(
+    alloc: Global,
+    disk: &mut D,
+    sizes: &Geometry,
+    head: &Super,
+    block: &mut [u8],
+) -> Result<Shown, CheckFault>
+    requires sized { IsSized (D.content disk.old) }
+    requires sizes { sizes.now ≡ geometry_of (D.content disk.old) }
+    requires head { IsSuper (superblock_of (D.content disk.old)) head.now }
+    requires block { length block.old ≡ sizes.now.block_size }
+    ensures sound { IfOk result (λ s. IsSound (D.content disk.old)) }
+    ensures lines { IfOk result (λ s. length s.owners.items ≡ line_count sizes.now) }
+    ensures owners { IfOk result (λ s. s.owners.items ≡ line_owners sizes.now (D.content disk.old)) }
+    ensures used { IfOk result (λ s. s.used.items ≡ used_flags sizes.now (D.content disk.old)) }
+    ensures first { IfOk result (λ s. first_bad sizes.now nothing_met (walk sizes.now (D.content disk.old)) ≡ None) }
+    ensures err { IfErr result (Says (Flaw (D.content disk.old)) (Rose (D.faults disk.old) (D.faults disk.new)) ⊤) }
+    ensures content { D.content disk.new ≡ D.content disk.old }
+    ensures faults { D.faults disk.old ≤ D.faults disk.new }
+{
+    let list = check_inodes(alloc, disk, sizes, block)?;
+    let walk = check_blocks(alloc, disk, sizes, block)?;
+    check_walked(alloc, disk, sizes, head, &list, &walk, block)?;
+    let owners = line_owners(alloc, sizes, &list.used, &walk.walk.owner)?;
+    Ok(Shown {
+        owners,
         used: list.used,
     })
+}
+
+// The conditions 10 to 16, where those before hold, from what the inode list and the walk show. The slice has a block's
+// length.
+fn check_walked<D: Disk>(
+    alloc: Global,
+    disk: &mut D,
+    sizes: &Geometry,
+    head: &Super,
+    list: &InodeList,
+    walk: &BlockWalk,
+    block: &mut [u8],
+) -> Result<(), CheckFault>
+    requires walked { IsWalked (D.content disk.old) }
+    requires sizes { sizes.now ≡ geometry_of (D.content disk.old) }
+    requires head { IsSuper (superblock_of (D.content disk.old)) head.now }
+    requires used { list.now.used.items ≡ used_flags sizes.now (D.content disk.old) }
+    requires links { list.now.links.items ≡ link_counts sizes.now (D.content disk.old) }
+    requires root { list.now.root ≡ is_directory (inode_of sizes.now (D.content disk.old) 2) }
+    requires kept { map kept_of walk.now.directories.items
+        ≡ map (directory_in sizes.now (D.content disk.old)) (directories sizes.now (D.content disk.old)) }
+    requires blocks { length walk.now.walk.owner.items ≡ sizes.now.blocks }
+    requires owners { (b : ℕ) → met_by (slice_index walk.now.walk.owner.items) b ≡ is_among (walked sizes.now (D.content disk.old)) b }
+    requires block { length block.old ≡ sizes.now.block_size }
+    ensures sound { OnOk result (IsSound (D.content disk.old)) }
+    ensures err { IfErr result (Says (Flaw (D.content disk.old)) (Rose (D.faults disk.old) (D.faults disk.new)) ⊤) }
+    ensures content { D.content disk.new ≡ D.content disk.old }
+    ensures faults { D.faults disk.old ≤ D.faults disk.new }
+{
+    check_free(alloc, disk, sizes, head, list, &walk.walk.owner)?;
+    check_names(alloc, disk, sizes, list, &walk.directories, block)
 }
 
 // The conditions 4 and 5, where the first three hold: what the inode list shows. The slice has a block's length.

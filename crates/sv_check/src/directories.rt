@@ -1,5 +1,5 @@
 // The entries of all directories: condition 14 of a sound image, and what they say of each inode.
-ghost use Rattle.std.specs.Prelude.{◌≡◌, ◌≤◌, ◌+◌, ◌-◌, ◌*◌, ◌/◌, ⊤, ℕ, List, None, map, min, length, All, IfOk, IfErr};
+ghost use Rattle.std.specs.Prelude.{◌≡◌, ◌≤◌, ◌+◌, ◌-◌, ◌*◌, ◌/◌, ⊤, ℕ, List, [], None, map, min, length, All, IfOk, IfErr};
 ghost use Rattle.std.specs.Bool.{OnTrue};
 ghost use Rattle.sv_dev.specs.Causes.{Rose};
 ghost use Rattle.sv_form.specs.Geometry.{IsGeometry, inode_count};
@@ -7,6 +7,7 @@ ghost use Rattle.sv_check.specs.Directories.{directories, entry_flaw};
 ghost use Rattle.sv_check.specs.Fault.{Says};
 ghost use Rattle.sv_check.specs.InodeList.{used_flags};
 ghost use Rattle.sv_check.specs.Pages.{IsReady, is_in_order};
+ghost use Rattle.sv_check.specs.SeenNames.{HasSeen};
 ghost use Rattle.sv_check.specs.Standings.{after, standing_of, told, told_in};
 
 use crate::entries::SeenNames;
@@ -79,6 +80,36 @@ fn is_in_order<D: Disk>(
     ensures size { length block.new ≡ sizes.now.block_size }
 {
     let mut names = SeenNames::new(alloc);
+    are_pages_in_order(disk, sizes, used, directory, &mut names, standings, block)
+}
+
+// The same, where no name was seen yet.
+fn are_pages_in_order<D: Disk>(
+    disk: &mut D,
+    sizes: &Geometry,
+    used: &[bool],
+    directory: &Directory,
+    names: &mut SeenNames,
+    standings: &mut Standings,
+    block: &mut [u8],
+) -> Result<bool, CheckFault>
+    requires sizes { IsGeometry sizes.now }
+    requires length { length (D.content disk.old) ≡ sizes.now.blocks * sizes.now.block_size }
+    requires used { used.now ≡ used_flags sizes.now (D.content disk.old) }
+    requires ready { IsReady sizes.now (D.content disk.old) directory.now }
+    requires names { HasSeen names.old [] }
+    requires standings { length standings.old.of.items ≡ inode_count sizes.now + 1 }
+    requires number { directory.now.inode ≤ inode_count sizes.now }
+    requires block { length block.old ≡ sizes.now.block_size }
+    ensures order { IfOk result (λ ok. ok ≡ is_in_order sizes.now (D.content disk.old) directory.now.inode) }
+    ensures told { IfOk result (λ ok. OnTrue ok (standing_of standings.new
+        ≡ after (standing_of standings.old) (told_in sizes.now (D.content disk.old) directory.now.inode))) }
+    ensures len { IfOk result (λ ok. length standings.new.of.items ≡ length standings.old.of.items) }
+    ensures err { IfErr result (Says (λ _ _. ⊥) (Rose (D.faults disk.old) (D.faults disk.new)) ⊤) }
+    ensures content { D.content disk.new ≡ D.content disk.old }
+    ensures faults { D.faults disk.old ≤ D.faults disk.new }
+    ensures size { length block.new ≡ sizes.now.block_size }
+{
     for k in 0..page_count(sizes, directory.size) {
         let Some(b) = block_of_page(&directory.pages, k) else {
             return Ok(false);

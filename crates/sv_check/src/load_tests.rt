@@ -49,7 +49,7 @@ fn loaded_text(
     requires { IsMountedFrom disk.old.content mounted.now }
 {
     match load(alloc, disk, mounted) {
-        Ok(fs) => Ok(Some(listing(&fs, alloc)?)),
+        Ok(fs) => Ok(Some(listing(alloc, &fs)?)),
         Err(LoadFault::Fault) => Ok(None),
         Err(LoadFault::NoMemory) => Err("no memory")?,
     }

@@ -11,6 +11,7 @@ ghost use Rattle.sv_check.specs.Pages.{directory_in, kept_of};
 ghost use Rattle.sv_check.specs.PastSize.{past_size_flaw, tail_flaw};
 ghost use Rattle.sv_check.specs.Chain.{walked};
 ghost use Rattle.sv_check.specs.Progress.{met_by};
+ghost use Rattle.sv_check.specs.FreshWalk.{IsFresh};
 ghost use Rattle.sv_check.specs.Walk.{is_among, first_bad, nothing_met, walk};
 
 use crate::CheckFault;
@@ -59,49 +60,76 @@ pub(crate) fn walk_blocks<D: Disk>(
     ensures content { D.content disk.new ≡ D.content disk.old }
     ensures faults { D.faults disk.old ≤ D.faults disk.new }
 {
-    let mut walk = Walk {
+    let walk = Walk {
         owner: no_owners(alloc, sizes.blocks)?,
         past: false,
         tail: false,
         pages: Vec::new(alloc),
         bad: 0,
     };
-    let mut past = None;
-    let mut tail = None;
-    let mut directories = Vec::new(alloc);
-    for before in 0..sizes.inode_count() {
-        let n = (before + 1) as u16;
-        turn_to_inode(disk, sizes, n, block)?;
-        let at = 64 * usize::from(sizes.inode_place(n).line);
-        let inode = &block[at..at + 64];
-        if is_free(inode) {
-            continue;
-        }
-        if !walk.walk_inode(alloc, disk, sizes, n, inode)? {
-            let bad = Some(Met {
-                inode: n,
-                block: walk.bad,
-            });
-            return Ok(BlockWalk {
-                walk,
-                bad,
-                past,
-                tail,
-                directories,
-            });
-        }
-        past = past.or(walk.past.then_some(n));
-        tail = tail.or(walk.tail.then_some(n));
-        keep_directory(alloc, &mut directories, &mut walk.pages, n, inode)?;
-        walk.clear();
-    }
-    Ok(BlockWalk {
+    let mut found = BlockWalk {
         walk,
         bad: None,
-        past,
-        tail,
-        directories,
-    })
+        past: None,
+        tail: None,
+        directories: Vec::new(alloc),
+    };
+    found.walk_inodes(alloc, disk, sizes, block)?;
+    Ok(found)
+}
+
+impl BlockWalk {
+    // Walks over the used inodes, where nothing was walked over yet.
+    fn walk_inodes<D: Disk>(
+        &mut self,
+        alloc: Global,
+        disk: &mut D,
+        sizes: &Geometry,
+        block: &mut [u8],
+    ) -> Result<(), CheckFault>
+        requires sizes { IsGeometry sizes.now }
+        requires length { length (D.content disk.old) ≡ sizes.now.blocks * sizes.now.block_size }
+        requires kind { kind_flaw sizes.now (D.content disk.old) ≡ None }
+        requires block { length block.old ≡ sizes.now.block_size }
+        requires fresh { IsFresh sizes.now.blocks self.old }
+        ensures bad { OnOk result (self.new.bad ≡ first_bad sizes.now nothing_met (walk sizes.now (D.content disk.old))) }
+        ensures past { OnOk result (self.new.bad ≡ None → self.new.past ≡ past_size_flaw sizes.now (D.content disk.old)) }
+        ensures tail { OnOk result (self.new.bad ≡ None → self.new.tail ≡ tail_flaw sizes.now (D.content disk.old)) }
+        ensures directories { OnOk result (self.new.bad ≡ None
+            → map kept_of self.new.directories.items ≡ map (directory_in sizes.now (D.content disk.old)) (directories sizes.now (D.content disk.old))) }
+        ensures owners { OnOk result (length self.new.walk.owner.items ≡ sizes.now.blocks) }
+        ensures met { OnOk result (self.new.bad ≡ None
+            → (b : ℕ) → met_by (slice_index self.new.walk.owner.items) b ≡ is_among (walked sizes.now (D.content disk.old)) b) }
+        ensures owner { OnOk result (self.new.bad ≡ None
+            → (b : ℕ) → slice_index self.new.walk.owner.items b ≡ block_owner sizes.now (D.content disk.old) b) }
+        ensures err { IfErr result (Says (λ _ _. ⊥) (Rose (D.faults disk.old) (D.faults disk.new)) ⊤) }
+        ensures content { D.content disk.new ≡ D.content disk.old }
+        ensures faults { D.faults disk.old ≤ D.faults disk.new }
+    {
+        for before in 0..sizes.inode_count() {
+            let n = (before + 1) as u16;
+            turn_to_inode(disk, sizes, n, block)?;
+            let at = 64 * usize::from(sizes.inode_place(n).line);
+            let inode = &block[at..at + 64];
+            if is_free(inode) {
+                continue;
+            }
+            if !self.walk.walk_inode(alloc, disk, sizes, n, inode)? {
+                self.bad = Some(Met {
+                    inode: n,
+                    block: self.walk.bad,
+                });
+                return Ok(());
+            }
+            let past = self.past.or(self.walk.past.then_some(n));
+            let tail = self.tail.or(self.walk.tail.then_some(n));
+            self.past = past;
+            self.tail = tail;
+            keep_directory(alloc, &mut self.directories, &mut self.walk.pages, n, inode)?;
+            self.walk.clear();
+        }
+        Ok(())
+    }
 }
 
 // Keeps the pages of inode n, which were met, if it is a directory.

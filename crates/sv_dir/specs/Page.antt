@@ -1,6 +1,6 @@
 -- A page of a directory, as its entries.
 use Rattle.std.specs.Prelude.{◌≡◌, ◌<◌, ◌≤◌, ◌+◌, ◌*◌, ◌/◌, ◌%◌, ℕ, List, Some, None, length, slice_range}
-use Rattle.sv_form.specs.Entry.{IsEntry}
+use Rattle.sv_form.specs.Entries as pieces
 use Rattle.sv_form.specs.declared.entry.Entry.{Entry}
 
 -- at most 1,024 bytes, sixteen for each entry
@@ -16,9 +16,8 @@ abbrev pub piece : List ℕ → ℕ → List ℕ
 piece page place = slice_range page (16 * place) (16 * place + 16)
 
 -- the page has that entry at that place
-pub record HasEntry (page : List ℕ) (place : ℕ) (e : Entry) : Type 0 where
-  pub within : place < entry_count page
-  pub spelled : IsEntry (piece page place) e
+abbrev pub HasEntry : List ℕ → ℕ → Entry → Type 0
+HasEntry page place e = pieces.HasEntry (entry_count page) (piece page) place e
 
 abbrev pub HasNamed : List ℕ → List ℕ → ℕ → ℕ → Type 0
 HasNamed page name place inode = HasEntry page place (record { inode = inode; name = Some name })

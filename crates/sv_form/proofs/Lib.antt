@@ -12,3 +12,4 @@ pub mod OwnerLemmas
 pub mod NodeLemmas
 pub mod NodeEntryLemmas
 pub mod PathBlocks
+pub mod ReaderLemmas

@@ -27,11 +27,11 @@ name_is (Some n) i spelled =
     ap (λ (l : List ℕ). Some l) (sym (until_zero-filled n (14 - length n) spelled.1.plain))
     ∙ sym (cond-false (i == 0) None (Some (until_zero (filled n))) (ne_eqb i 0 spelled.0))
 
-inode_bytes : (block : ℕ) (node : Node) (j : ℕ) → number16 (entry_bytes block node j) 0 ≡ entry_inode block node j
+pub inode_bytes : (block : ℕ) (node : Node) (j : ℕ) → number16 (entry_bytes block node j) 0 ≡ entry_inode block node j
 unfolding bytes_of entry_inode
 inode_bytes block node j = refl
 
-after_inode : (block : ℕ) (node : Node) (j : ℕ) → drop 2 (entry_bytes block node j) ≡ name_bytes block node j
+pub after_inode : (block : ℕ) (node : Node) (j : ℕ) → drop 2 (entry_bytes block node j) ≡ name_bytes block node j
 unfolding bytes_of
 after_inode block node j =
     let at : 16 * j + 1 + 1 ≡ 16 * j + 2 = omega arith in

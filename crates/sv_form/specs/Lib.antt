@@ -1,4 +1,8 @@
+pub mod AddressTree
+pub mod Entries
 pub mod Entry
+pub mod FileBytes
+pub mod FreeChain
 pub mod Geometry
 pub mod Image
 pub mod Inode
@@ -9,9 +13,12 @@ pub mod NameInside
 pub mod Node
 pub mod NodeChanges
 pub mod NodeEntries
+pub mod NodeNames
+pub mod NodeNeeds
 pub mod Number
 pub mod OwnerTable
 pub mod Owners
 pub mod PagePath
 pub mod Pair
+pub mod Readers
 pub mod Superblock

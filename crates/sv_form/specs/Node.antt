@@ -6,6 +6,10 @@ use Rattle.std.specs.Ordering.{nat_cmp}
 use Rattle.std.specs.Coded.{Coded, code_by, coded×, coded_ℕ, coded_bool, coded_list}
 use Rattle.std.specs.FinMap as fmap
 use Rattle.std.specs.FinSet as set
+pub use Rattle.sv_form.specs.Entries.{until_zero}
+use Rattle.sv_form.specs.FileBytes.{byte_at}
+pub use Rattle.sv_form.specs.FileBytes.{page_byte}
+pub use Rattle.sv_form.specs.PagePath.{numbers_per, above, blocks_at}
 use Rattle.sv_form.specs.declared.kind.Kind.{Kind}
 use Rattle.sv_form.specs.declared.kind.Kind.TheVariants.{File, Dir}
 use Rattle.sv_form.specs.Pair.{pair_cmp}
@@ -40,42 +44,19 @@ node_code =
 
 -- ---- bytes
 
--- byte r of a page, and 0 where the page is absent
-abbrev pub page_byte : Option (List ℕ) → ℕ → ℕ
-page_byte None r = 0
-page_byte (Some bytes) r = slice_index bytes r
-
--- byte k of a node: it is in the page k / block
+-- byte k of a node
 unfoldable pub byte_of : ℕ → Node → ℕ → ℕ
-byte_of block node k = page_byte (fmap.get node.pages (k / block)) (k % block)
+byte_of block node k = byte_at block (λ p. page_byte (fmap.get node.pages p)) k
 
 -- `count` bytes of a node, from `from` on
 unfoldable pub bytes_of : ℕ → Node → ℕ → ℕ → List ℕ
 bytes_of block node from count = map (byte_of block node) (range_with_len from count)
 
--- ---- the blocks that a node uses (Bach, chapter 4.2: ten direct addresses, then a single, a double and a triple
--- indirect one). A block is its height and its number there: a page is at height 0, and an indirect block at the height
--- of the longest way down to a page. `per` is how many numbers an indirect block has.
+-- ---- the blocks that a node uses
 
--- the indirect blocks above a page
-abbrev pub above : ℕ → ℕ → List (ℕ × ℕ)
-above per page =
-    if nat_lt page 10 then []
-    else (1, (page - 10) / per) ∷ (if nat_lt page (10 + per) then []
-    else (2, (page - (10 + per)) / (per * per)) ∷ (if nat_lt page (10 + per + per * per) then []
-    else (3, 0) ∷ []))
-
--- a page, and the indirect blocks above it
-abbrev pub blocks_at : ℕ → ℕ → List (ℕ × ℕ)
-blocks_at per page = (0, page) ∷ above per page
-
--- the blocks of these pages, each once
+-- the blocks of these pages and the indirect blocks above them, each once, where an indirect block has `per` numbers
 unfoldable pub block_set : ℕ → List ℕ → set.FinSet pair_cmp
 block_set per pages = set.from_list (flat_map (blocks_at per) pages)
-
--- how many numbers an indirect block has: each takes four bytes
-abbrev pub numbers_per : ℕ → ℕ
-numbers_per block = block / 4
 
 -- how many blocks a node uses: its pages, and the indirect blocks above at least one page
 unfoldable pub used : ℕ → Node → ℕ
@@ -89,11 +70,6 @@ entry_count node = node.size / 16
 -- the inode's number in entry j, 0 where the entry is empty
 unfoldable pub entry_inode : ℕ → Node → ℕ → ℕ
 entry_inode block node j = byte_of block node (16 * j) + 256 * byte_of block node (16 * j + 1)
-
--- the front of these bytes up to the first zero
-abbrev pub until_zero : List ℕ → List ℕ
-until_zero [] = []
-until_zero (b ∷ bs) = if b == 0 then [] else b ∷ until_zero bs
 
 -- the fourteen bytes that entry j has for its name
 abbrev pub name_bytes : ℕ → Node → ℕ → List ℕ

@@ -1,7 +1,7 @@
 -- The bytes of a node and, of a directory, its entries: its bytes below its size, cut into pieces of sixteen.
 use Rattle.std.specs.Prelude.{◌≡◌, ◌<◌, ◌*◌, ◌==◌, ℕ, List, Some, None, if◌then◌else◌}
 use Rattle.sv_form.specs.declared.entry.Entry.{Entry}
-use Rattle.sv_form.specs.Entry.{IsEntry}
+use Rattle.sv_form.specs.Entries as pieces
 use Rattle.sv_form.specs.Node.{Node, bytes_of, entry_count, entry_inode, entry_name}
 
 -- the bytes of a node, from the first to its size
@@ -13,9 +13,8 @@ abbrev pub entry_bytes : ℕ → Node → ℕ → List ℕ
 entry_bytes block node j = bytes_of block node (16 * j) 16
 
 -- the directory has that entry at that place
-pub record HasEntry (block : ℕ) (node : Node) (j : ℕ) (e : Entry) : Type 0 where
-  pub within : j < entry_count node
-  pub spelled : IsEntry (entry_bytes block node j) e
+abbrev pub HasEntry : ℕ → Node → ℕ → Entry → Type 0
+HasEntry block node j e = pieces.HasEntry (entry_count node) (entry_bytes block node) j e
 
 -- what stands at a place, where an entry is spelled there
 abbrev pub entry_at : ℕ → Node → ℕ → Entry

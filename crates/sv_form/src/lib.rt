@@ -20,6 +20,7 @@ mod number;
 mod owners;
 mod page_path;
 mod place;
+mod readers;
 mod superblock;
 mod table;
 
@@ -37,6 +38,10 @@ pub use number::{
 pub use owners::{LineRange, Mounted, NoMemory, Owners};
 pub use page_path::{DIRECT, PagePath, pages_have_one_path};
 pub use place::Place;
+pub use readers::{
+    nodes_read_pieces, readers_chain_the_same, readers_list_the_same, readers_reach_the_same,
+    readers_show_the_same,
+};
 pub use superblock::{MAGIC, Super, superblocks_have_one_spelling};
 
 #[cfg(test)]

@@ -21,7 +21,7 @@ use Rattle.sv_inode.specs.Truncate.{AreBlocks, CanFreeAll, FreesAll, HoldsInode,
 use Rattle.sv_inode.proofs.GivenBack.{only-at}
 
 hole-page : (g : Geometry) (h : Held) (page : ℕ) → page_block g h thirteen page ≡ 0
-unfolding page_block
+unfolding Rattle.sv_form.specs.AddressTree.page_block
 hole-page g h page = down-hole h (get_or thirteen (slot_of (path (block_numbers g) page)) 0) (places_of (path (block_numbers g) page)) (zeros (slot_of (path (block_numbers g) page)))
 
 -- without size and addresses the inode stands for the node without bytes

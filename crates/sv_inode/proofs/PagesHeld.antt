@@ -84,7 +84,7 @@ page_spot g page pos limit =
     subst P (sym (path-is g there.0 page there.1.0 there.1.1)) (path_spot g there.0 there.1.0)
 
 page_held : (o : Origin) (h : Held) (a : List ℕ) (page : ℕ) → IsTree o h a → 0 < block_numbers o.sizes → page < page_limit (block_numbers o.sizes) → page_block o.sizes h a page ≢ 0 → HoldsBlock o h (page_block o.sizes h a page)
-unfolding page_block
+unfolding Rattle.sv_form.specs.AddressTree.page_block
 page_held o h a page tree pos limit some =
     tree.whole (slot_of (path (block_numbers o.sizes) page)) (places_of (path (block_numbers o.sizes) page)) (page_spot o.sizes page pos limit) some
 

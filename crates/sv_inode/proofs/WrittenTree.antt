@@ -70,7 +70,7 @@ page-apart g q page sizes low below apart e f =
     apart (sym one.1 ∙ (same-page g (path n q) (path n page) one.0 two.0 e f ∙ two.1))
 
 pub at-page : (g : Geometry) (h : Held) (a : List ℕ) (page : ℕ) → page_block g h a page ≡ block_at h a (page_slot g page) (page_places g page)
-unfolding page_block
+unfolding Rattle.sv_form.specs.AddressTree.page_block
 at-page g h a page = refl
 
 -- one place further down
@@ -234,7 +234,7 @@ module _ (h : Held) {new : Held} (p : ℕ) (bytes : List ℕ) (puts : new ≡ pu
   line-other c l apart = ap (λ q. q c l) puts ∙ put-other p bytes h c l (differ c p apart)
 
   child-other : (c k : ℕ) → c ≢ p → child new c k ≡ child h c k
-  unfolding child number_in
+  unfolding Rattle.sv_form.specs.AddressTree.child number_in
   child-other c k apart = ap (λ q. cond (c == 0) 0 (number32 (unwrap_or q []) (k % 16 * 4))) (line-other c (k / 16) apart)
 
   holds-put : (o : Origin) (c : ℕ) → HoldsBlock o h c → HoldsBlock o new c

@@ -34,7 +34,7 @@ fn take(fs: &mut Fs, alloc: Global, entry: &Entry, i: u32) -> Result<(), ReplayF
     ensures whole { IsWhole fs.new }
     ensures refused { IfErr result (IsRefusedHere fs.old entry.now i) }
 {
-    match apply(fs, alloc, entry.process, &entry.op, &entry.reply) {
+    match apply(alloc, fs, entry.process, &entry.op, &entry.reply) {
         Ok(()) => Ok(()),
         Err(Illegal::NoMemory) => Err(ReplayFault::NoMemory),
         Err(Illegal::Condition) => Err(ReplayFault::Place(i)),

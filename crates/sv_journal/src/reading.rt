@@ -14,7 +14,7 @@ use sv_plain::{Entries, Entry};
 pub const TEXT_MAX: usize = 536870912;
 
 /// A history, with the number of its processes and of the places of their table of in-core inodes.
-#[derive(Debug, Drop)]
+#[derive(Drop)]
 pub struct Journal {
     pub processes: u8,
     pub table: u32,

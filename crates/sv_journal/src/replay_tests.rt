@@ -48,12 +48,12 @@ fn replayed(alloc: Global, entries: &[Entry]) -> Result<Vec<u8>, ReplayFault> {
     let Ok(mut fs) = new_tree(alloc) else {
         return Err(ReplayFault::NoMemory);
     };
-    let Ok(()) = begin(&mut fs, alloc, 1, 100) else {
+    let Ok(()) = begin(alloc, &mut fs, 1, 100) else {
         return Err(ReplayFault::NoMemory);
     };
     let entries = &entries[..entries.len().min(28)];
     let fs = replay(fs, alloc, entries)?;
-    let Ok(text) = listing(&fs, alloc) else {
+    let Ok(text) = listing(alloc, &fs) else {
         return Err(ReplayFault::NoMemory);
     };
     Ok(text)

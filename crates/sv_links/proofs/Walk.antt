@@ -10,10 +10,10 @@ abbrev pub rest : Option ℕ → List ℕ → List ℕ
 rest None xs = []
 rest (Some x) xs = x ∷ after x xs
 
-after-same : (x y : ℕ) (ys : List ℕ) → y ≡ x → after x (y ∷ ys) ≡ ys
+pub after-same : (x y : ℕ) (ys : List ℕ) → y ≡ x → after x (y ∷ ys) ≡ ys
 after-same x y ys e = cond-true (y == x) ys (after x ys) (eq-eqb y x e)
 
-after-other : (x y : ℕ) (ys : List ℕ) → (y ≡ x → ⊥) → after x (y ∷ ys) ≡ after x ys
+pub after-other : (x y : ℕ) (ys : List ℕ) → (y ≡ x → ⊥) → after x (y ∷ ys) ≡ after x ys
 after-other x y ys n = cond-false (y == x) ys (after x ys) (ne_eqb y x n)
 
 pub times-after : (x y : ℕ) (xs : List ℕ) → times y (after x xs) ≤ times y xs

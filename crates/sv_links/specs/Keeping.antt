@@ -1,11 +1,12 @@
--- How the lists are kept: one vector a list, and beside them the list of each number.
-use Rattle.std.specs.Prelude.{◌≡◌, ◌<◌, ◌≤◌, ◌==◌, ℕ, Option, Some, None, All, map, length, slice_index_or, vec_capacity}
+-- How the lists are kept: linked in both directions, and beside them the list of each number.
+use Rattle.std.specs.Prelude.{◌≡◌, ◌<◌, ◌==◌, ℕ, Option, Some, None, map, length, slice_index_or}
 use Rattle.sv_links.specs.Arrangement.{Arrangement, list_at, times, one_if}
+use Rattle.sv_links.specs.Way.{walk, IsLinked}
 use Rattle.sv_links.specs.declared.lists.Lists.TheInside.{Inside}
 
--- what the vectors hold, seen as lists in order
+-- what is linked, seen as lists in order
 abbrev pub arrangement : Inside → Arrangement
-arrangement a = record { numbers = length a.places.items; lists = map (λ v. v.items) a.lists.items }
+arrangement a = record { numbers = length a.places.items; lists = map (walk a.forwards (length a.places.items)) a.forwards.begins }
 
 -- the list of a number, by the table
 abbrev pub place : Inside → ℕ → Option ℕ
@@ -16,8 +17,10 @@ abbrev pub stands : Option ℕ → ℕ → ℕ
 stands None l = 0
 stands (Some k) l = one_if (k == l)
 
--- The table tells of each number on which list it stands, once, and each vector has room for every number.
+-- The table tells of each number on which list it stands, once, and the links are those of the lists.
 pub record IsKept (a : Inside) : Type 0 where
   pub told : (l x : ℕ) → times x (list_at (arrangement a) l) ≡ stands (place a x) l
-  pub in_range : (l x : ℕ) → place a x ≡ Some l → l < length a.lists.items
-  pub roomy : All (λ v. length a.places.items ≤ vec_capacity v) a.lists.items
+  pub in_range : (l x : ℕ) → place a x ≡ Some l → l < length a.forwards.begins
+  pub linked_up : IsLinked a.forwards a.backwards (arrangement a).lists
+  pub forth : length a.forwards.follows ≡ length a.places.items
+  pub back : length a.backwards.follows ≡ length a.places.items

@@ -1,2 +1,3 @@
 pub mod Arrangement
+pub mod Way
 pub mod Keeping

@@ -7,6 +7,7 @@
 #![tactic(auto)]
 
 mod lists;
+mod way;
 
 pub use lists::Lists;
 pub use std::alloc::AllocError as NoMemory;

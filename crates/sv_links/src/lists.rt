@@ -1,16 +1,19 @@
-// Many lists over numbers, one vector a list.
-ghost use Rattle.std.specs.Prelude.{◌≡◌, ◌<◌, ℕ, [], ◌∷◌, ◌++◌, length, map, replicate, slice_get, slice_set, IfOk, MatchOption};
+// Many lists over numbers, linked in both directions.
+ghost use Rattle.std.specs.Prelude.{◌≡◌, ◌<◌, ℕ, [], ◌∷◌, ◌++◌, length, map, replicate, slice_get, slice_set, IfOk, MatchOption, Some, None};
 ghost use Rattle.sv_links.specs.Arrangement.{list_at, IsArranged, IsOn, IsOnSome, IsOnNone, without, after};
+ghost use Rattle.sv_links.specs.Way.{next_of, linked, HasPlace};
 
 use crate::NoMemory;
+use crate::way::Way;
 use std::alloc::Global;
 use std::marker::Model;
 
 /// The lists 0 to m - 1 over the numbers 0 to n - 1. Contracts see each list in order, from its head to its tail.
 #[derive(Drop)]
 pub struct Lists {
-    lists: Vec<Vec<u32>>,
     places: Vec<Option<u32>>,
+    forwards: Way,
+    backwards: Way,
 }
 
 impl Model for Lists {
@@ -26,19 +29,15 @@ impl Model for Lists {
 }
 
 impl Lists {
-    /// Empty lists. Each list has room for every number, so no later call takes memory.
+    /// Empty lists.
     pub fn new(alloc: Global, numbers: u32, lists: u32) -> Result<Self, NoMemory>
         ensures empty { IfOk result (λ a. a ≡ record { numbers = numbers; lists = replicate lists [] }) }
         ensures arranged { IfOk result IsArranged }
     {
-        let places = vec![in alloc; None; numbers as usize]?;
-        let mut vectors = Vec::with_capacity(alloc, lists as usize)?;
-        for _ in 0..lists {
-            vectors.push(Vec::with_capacity(alloc, numbers as usize)?)?;
-        }
         Ok(Lists {
-            lists: vectors,
-            places,
+            places: nowhere(alloc, numbers)?,
+            forwards: Way::new(alloc, numbers, lists)?,
+            backwards: Way::new(alloc, numbers, lists)?,
         })
     }
 
@@ -50,9 +49,7 @@ impl Lists {
         ensures pushed { self.new ≡ record self.old { lists = slice_set self.old.lists list (x ∷ list_at self.old list) } }
         ensures arranged { IsArranged self.new }
     {
-        let numbers = &mut self.lists[list as usize];
-        // There is room for every number, so nothing is refused.
-        let _ = numbers.insert(0, x);
+        put_first(&mut self.forwards, &mut self.backwards, list, x);
         self.places[x as usize] = Some(list);
     }
 
@@ -64,9 +61,7 @@ impl Lists {
         ensures pushed { self.new ≡ record self.old { lists = slice_set self.old.lists list (list_at self.old list ++ x ∷ []) } }
         ensures arranged { IsArranged self.new }
     {
-        let numbers = &mut self.lists[list as usize];
-        // There is room for every number, so nothing is refused.
-        let _ = numbers.push(x);
+        put_first(&mut self.backwards, &mut self.forwards, list, x);
         self.places[x as usize] = Some(list);
     }
 
@@ -77,7 +72,7 @@ impl Lists {
         ensures arranged { IsArranged self.new }
     {
         if let Some(list) = self.places[x as usize] {
-            self.lists[list as usize].retain(|y| *y != x);
+            take_out(&mut self.forwards, &mut self.backwards, list, x);
             self.places[x as usize] = None;
         }
     }
@@ -88,7 +83,7 @@ impl Lists {
         ensures head { result ≡ slice_get (list_at self.now list) 0 }
         ensures arranged { IsArranged self.now }
     {
-        self.lists[list as usize].first().copied()
+        self.forwards.next(list, None)
     }
 
     /// The number after this one on its list.
@@ -98,9 +93,7 @@ impl Lists {
         ensures arranged { IsArranged self.now }
     {
         let list = self.places[x as usize]?;
-        let numbers = &self.lists[list as usize];
-        let place = numbers.iter().position(|y| *y == x)?;
-        numbers.get(place + 1).copied()
+        self.forwards.next(list, Some(x))
     }
 
     /// The list on which a number stands.
@@ -111,6 +104,40 @@ impl Lists {
     {
         self.places[x as usize]
     }
+}
+
+/// The table of numbers that are on no list.
+fn nowhere(alloc: Global, numbers: u32) -> Result<Vec<Option<u32>>, NoMemory>
+    ensures { IfOk result (λ v. v.items ≡ replicate numbers None) }
+{
+    vec![in alloc; None; numbers as usize]
+}
+
+/// Puts x first on a list, seen in the direction of `forth`: `back` is the other direction.
+fn put_first(forth: &mut Way, back: &mut Way, list: u32, x: u32)
+    requires forth { HasPlace forth.old list None × HasPlace forth.old list (Some x) }
+    requires back { HasPlace back.old list (Some x) × HasPlace back.old list (next_of forth.old list None) }
+    ensures forth { forth.new ≡ linked (linked forth.old list (Some x) (next_of forth.old list None)) list None (Some x) }
+    ensures back { back.new ≡ linked (linked back.old list (Some x) None) list (next_of forth.old list None) (Some x) }
+{
+    let second = forth.next(list, None);
+    forth.link(list, Some(x), second);
+    forth.link(list, None, Some(x));
+    back.link(list, Some(x), None);
+    back.link(list, second, Some(x));
+}
+
+/// Takes x out of a list: its neighbours follow each other.
+fn take_out(forth: &mut Way, back: &mut Way, list: u32, x: u32)
+    requires forth { HasPlace forth.old list (Some x) × HasPlace forth.old list (next_of back.old list (Some x)) }
+    requires back { HasPlace back.old list (Some x) × HasPlace back.old list (next_of forth.old list (Some x)) }
+    ensures forth { forth.new ≡ linked forth.old list (next_of back.old list (Some x)) (next_of forth.old list (Some x)) }
+    ensures back { back.new ≡ linked back.old list (next_of forth.old list (Some x)) (next_of back.old list (Some x)) }
+{
+    let before = back.next(list, Some(x));
+    let after = forth.next(list, Some(x));
+    forth.link(list, before, after);
+    back.link(list, after, before);
 }
 
 #[cfg(test)]

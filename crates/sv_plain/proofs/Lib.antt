@@ -47,9 +47,11 @@ pub mod LowestUnused
 pub mod NameBytes
 pub mod OpenedInodes
 pub mod PageAdds
+pub mod PageBytes
 pub mod Places
 pub mod Purged
 pub mod RemovedNames
+pub mod RoomNeeds
 pub mod RootWhole
 pub mod SameBytes
 pub mod Shown
@@ -62,3 +64,5 @@ pub mod Undone
 pub mod Used
 pub mod UsedPages
 pub mod WrittenPages
+pub mod HistorySteps
+pub mod ShareLaws

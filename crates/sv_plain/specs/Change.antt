@@ -1,30 +1,22 @@
 -- What steps change.
-use Rattle.std.specs.Prelude.{◌+◌, ◌-◌, ◌*◌, ◌/◌, ◌%◌, ℕ, not, List, [], ◌∷◌, ◌++◌, replicate, Option, Some, None, unwrap_or, nat_le, if◌then◌else◌}
+use Rattle.std.specs.Prelude.{◌+◌, ◌-◌, ℕ, not, List, [], ◌∷◌, ◌++◌, replicate, Option, Some, None, nat_le, if◌then◌else◌}
 use Rattle.std.specs.Ordering.{nat_cmp}
 use Rattle.std.specs.FinMap as fmap
-use Rattle.sv_form.specs.Entry.{filled}
 use Rattle.sv_form.specs.Pair.{pair_cmp}
 use Rattle.sv_form.specs.declared.kind.Kind.{Kind}
 use Rattle.sv_form.specs.declared.kind.Kind.TheVariants.{File, Dir}
-use Rattle.sv_form.specs.Node.{Node, entry_count}
-use Rattle.sv_form.specs.NodeChanges.{put}
+use Rattle.sv_form.specs.Node.{Node}
+use Rattle.sv_form.specs.NodeNames.{spelling}
+pub use Rattle.sv_form.specs.NodeNames.{with_entry, without_entry}
 use Rattle.sv_plain.specs.declared.opening.Opening.{Opening}
 use Rattle.sv_plain.specs.Fs.{Fs}
-use Rattle.sv_plain.specs.Names.{place_of, empty_place, references_of, is_lost}
+use Rattle.sv_plain.specs.Names.{references_of, is_lost}
 
 -- ---- the bytes of a node
 
 -- the sixteen bytes of an entry
 abbrev pub entry_bytes : ℕ → List ℕ → List ℕ
-entry_bytes inode name = inode % 256 ∷ inode / 256 ∷ filled name
-
--- a directory with one name more, in the first empty entry or else at the end
-abbrev pub with_entry : ℕ → ℕ → List ℕ → Node → Node
-with_entry block inode name node = put block node (16 * unwrap_or (empty_place block node) (entry_count node)) (entry_bytes inode name)
-
--- a directory whose entry of that name is empty
-abbrev pub without_entry : ℕ → List ℕ → Node → Node
-without_entry block name node = put block node (16 * unwrap_or (place_of block node name) 0) (replicate 16 0)
+entry_bytes inode name = spelling inode name
 
 -- a node with other links
 abbrev pub with_links : (ℕ → ℕ) → Node → Node

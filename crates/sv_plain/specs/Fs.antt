@@ -1,5 +1,5 @@
 -- The state of the one-process file system.
-use Rattle.std.specs.Prelude.{◌≡◌, ◌+◌, ◌-◌, ◌*◌, ◌==◌, ◌&&◌, ℕ, zero, suc, Bool, not, List, Option, Some, None, min, option_map, option_and_then, nat_lt, refl, if◌then◌else◌}
+use Rattle.std.specs.Prelude.{◌≡◌, ◌+◌, ◌-◌, ◌==◌, ◌&&◌, ℕ, zero, suc, Bool, not, List, Option, Some, None, option_map, option_and_then, nat_lt, refl, if◌then◌else◌}
 use Rattle.std.specs.List.{range_with_len, count_by}
 use Rattle.std.specs.Ordering.{nat_cmp}
 use Rattle.std.specs.Coded.{Coded, code_by, coded×, coded_ℕ}
@@ -7,8 +7,9 @@ use Rattle.std.specs.FinMap as map
 use Rattle.sv_form.specs.declared.geometry.Geometry.{Geometry}
 use Rattle.sv_form.specs.declared.kind.Kind.{Kind}
 use Rattle.sv_form.specs.Geometry.{inode_count}
+use Rattle.sv_form.specs.PagePath.{greatest_for}
 use Rattle.sv_form.specs.Pair.{pair_cmp}
-use Rattle.sv_form.specs.Node.{Node, node_code, is_dir, used, numbers_per, entry_inode, entry_count}
+use Rattle.sv_form.specs.Node.{Node, node_code, is_dir, used, entry_inode, entry_count}
 use Rattle.sv_plain.specs.declared.mode.Mode.{Mode}
 use Rattle.sv_plain.specs.declared.mode.Mode.TheVariants.{R, W, RW}
 use Rattle.sv_plain.specs.declared.opening.Opening.{Opening}
@@ -92,10 +93,9 @@ pending_on pending i = total (λ _ inode. one_if (inode == i)) pending
 
 -- ---- beginnings
 
--- the greatest size of a file: what ten direct addresses, a single, a double and a triple indirect one reach, and what
--- 31 bits count
+-- the greatest size of a file
 abbrev pub greatest_size : ℕ → ℕ
-greatest_size block = let per = numbers_per block in min 2147483647 ((10 + per + per * per + per * per * per) * block)
+greatest_size block = greatest_for block
 
 -- the numbers of a geometry, no places, and nothing else
 abbrev pub empty_fs : Geometry → Fs

@@ -1,11 +1,12 @@
 -- Names in directories, and what else a step asks of the state.
-use Rattle.std.specs.Prelude.{◌-◌, ◌==◌, ◌&&◌, ℕ, Bool, true, false, not, List, Option, Some, None, is_some, option_map, option_and_then, nat_eq}
-use Rattle.std.specs.List.{range_with_len, position, count_by}
-use Rattle.std.specs.Cmp.Lexicographic.{pointwise}
+use Rattle.std.specs.Prelude.{◌==◌, ◌&&◌, ℕ, Bool, true, false, not, List, Option, Some, None, is_some, option_and_then}
+use Rattle.std.specs.List.{range_with_len, count_by}
 use Rattle.std.specs.FinMap as map
 use Rattle.sv_form.specs.declared.kind.Kind.{Kind}
 use Rattle.sv_form.specs.declared.kind.Kind.TheVariants.{File, Dir}
-use Rattle.sv_form.specs.Node.{Node, is_dir, entry_count, entry_inode, entry_name}
+use Rattle.sv_form.specs.Node.{is_dir}
+pub use Rattle.sv_form.specs.NodeNames.{same_bytes, is_entry, child_of}
+unfoldable pub use Rattle.sv_form.specs.NodeNames.{place_of, empty_place, has_more}
 use Rattle.sv_plain.specs.Totals.{total, at_or_0, one_if}
 use Rattle.sv_plain.specs.Fs.{Fs, is_referenced, places_taken}
 
@@ -14,35 +15,11 @@ abbrev pub some_and : {X : Type 0} → Option X → (X → Bool) → Bool
 some_and None test = false
 some_and (Some x) test = test x
 
-abbrev pub same_bytes : List ℕ → List ℕ → Bool
-same_bytes = pointwise nat_eq
-
 abbrev pub same_kind : Kind → Kind → Bool
 same_kind File File = true
 same_kind Dir Dir = true
 same_kind File Dir = false
 same_kind Dir File = false
-
--- ---- a directory's entries
-
--- entry j has this name
-abbrev pub is_entry : ℕ → Node → List ℕ → ℕ → Bool
-is_entry block node name j = not (entry_inode block node j == 0) && same_bytes (entry_name block node j) name
-
--- the first entry with this name, and the first empty one
-unfoldable pub place_of : ℕ → Node → List ℕ → Option ℕ
-place_of block node name = position (is_entry block node name) (range_with_len 0 (entry_count node))
-
-unfoldable pub empty_place : ℕ → Node → Option ℕ
-empty_place block node = position (λ j. entry_inode block node j == 0) (range_with_len 0 (entry_count node))
-
--- the inode that the name leads to
-abbrev pub child_of : ℕ → Node → List ℕ → Option ℕ
-child_of block node name = option_map (entry_inode block node) (place_of block node name)
-
--- it has an entry besides the first two
-unfoldable pub has_more : ℕ → Node → Bool
-has_more block node = not (count_by (λ j. not (entry_inode block node j == 0)) (range_with_len 2 (entry_count node - 2)) == 0)
 
 -- ---- a node by its number
 

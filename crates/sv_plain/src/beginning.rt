@@ -13,7 +13,7 @@ const ROOT: u16 = 2;
 /// Lets so many processes begin, with a table of so many places for in-core inodes: each process has two references to
 /// the root, for its current directory and for itself (Bach, chapter 7.1). The file system is whole, and nothing is
 /// referred to, open, promised or pending yet. After want of memory all is as before.
-pub fn begin(fs: &mut Fs, alloc: Global, processes: u8, table: u32) -> Result<(), NoMemory>
+pub fn begin(alloc: Global, fs: &mut Fs, processes: u8, table: u32) -> Result<(), NoMemory>
     requires whole { IsWhole fs.old }
     requires references { fs.old.references ≡ map.empty }
     requires files { fs.old.files ≡ map.empty }

@@ -5,7 +5,7 @@ use crate::Entry;
 use std::marker::Model;
 
 /// The entries of a history, in order. A contract sees them as the list.
-#[derive(Debug, Drop)]
+#[derive(Drop)]
 pub struct Entries {
     entries: Vec<Entry>,
 }

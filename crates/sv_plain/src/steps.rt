@@ -8,5 +8,6 @@ mod promises;
 mod purge;
 mod reads;
 mod removal;
+mod room_needs;
 mod stat;
 mod writes;

@@ -12,7 +12,7 @@ use sv_form::Kind;
 /// One line for each node, in the order of the inode numbers: `inode I KIND MODE links L size S pages P`, where KIND is
 /// `f` or `d`, MODE is octal, the size is in bytes, and P is the number of pages that are present. Each line ends with a
 /// newline byte. The numbers up to the count of inodes are gone through once.
-pub fn listing(fs: &Fs, alloc: Global) -> Result<Vec<u8>, NoMemory>
+pub fn listing(alloc: Global, fs: &Fs) -> Result<Vec<u8>, NoMemory>
     ensures { IfOk result (λ text. text.items ≡ listing_text fs.now) }
 {
     let mut text = String::new(alloc);

@@ -91,9 +91,9 @@ fn replayed_listing(alloc: Global, tree: Fs, journal: &Journal) -> Result<Vec<u8
     ensures reason { IfErr result (StopsReplay (λ number place. ⊥) (IsIllegalAt journal.now.entries (begun tree journal.now.processes journal.now.table)) ⊥ ⊥ ⊥) }
 {
     let mut fs = tree;
-    begin(&mut fs, alloc, journal.processes, journal.table)?;
+    begin(alloc, &mut fs, journal.processes, journal.table)?;
     let fs = replay_entries(alloc, fs, journal.entries.as_slice())?;
-    let text = listing(&fs, alloc)?;
+    let text = listing(alloc, &fs)?;
     Ok(text)
 }
 

@@ -163,7 +163,7 @@ and-true true b h = (refl, h)
 and-true false b h = absurd (false≢true h)
 
 -- what it is to stand in a range
-covers-means : (b l : ℕ) (r : LineRange) → covers b l r ≡ true → (r.block ≡ b) × (r.first ≤ l) × (l < r.first + r.count)
+pub covers-means : (b l : ℕ) (r : LineRange) → covers b l r ≡ true → (r.block ≡ b) × (r.first ≤ l) × (l < r.first + r.count)
 unfolding covers
 covers-means b l r h =
     let one = and-true (r.block == b) (nat_le r.first l && nat_lt l (r.first + r.count)) h in
@@ -174,6 +174,17 @@ covers-means b l r h =
     low a b h = grind (nat_tests, arith)
 
     high : (a b : ℕ) → nat_lt a b ≡ true → a < b
+    high a b h = grind (nat_tests, arith)
+
+pub covers-in : (r : LineRange) (l : ℕ) → r.first ≤ l → l < r.first + r.count → covers r.block l r ≡ true
+unfolding covers
+covers-in r l from to =
+    ap (λ q. q && (nat_le r.first l && nat_lt l (r.first + r.count))) (eqb_same r.block) ∙ (ap (λ q. q && nat_lt l (r.first + r.count)) (low r.first l from) ∙ high l (r.first + r.count) to)
+  where
+    low : (a b : ℕ) → a ≤ b → nat_le a b ≡ true
+    low a b h = grind (nat_tests, arith)
+
+    high : (a b : ℕ) → a < b → nat_lt a b ≡ true
     high a b h = grind (nat_tests, arith)
 
 pub in_range-first : (r : LineRange) → 0 < r.count → in_ranges (r ∷ []) r.block r.first ≡ true

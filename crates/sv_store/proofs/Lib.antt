@@ -2,6 +2,7 @@ pub mod Bytes
 pub mod Holding
 pub mod Lines
 pub mod OwnContent
+pub mod OwnCut
 pub mod OwnJoin
 pub mod OwnLaws
 pub mod OwnParts

@@ -291,7 +291,7 @@ chosen-left lines es = fun_ext (λ b. fun_ext (λ l. held_of-left (Masks-copied 
 pub left-one : (f : OwnBlock → OwnBlock) (e : OwnBlock) → left f (e ∷ []) ≡ cond (holds_any (f e)) (f e ∷ []) []
 left-one f e = left-cons f e [] ∙ ap (λ q. cond (holds_any (f e)) (f e ∷ q) q) (left-nil f)
 
-take-one : (xs : List OwnBlock) (d : OwnBlock) → 0 < length xs → take 1 xs ≡ get_or xs 0 d ∷ []
+pub take-one : (xs : List OwnBlock) (d : OwnBlock) → 0 < length xs → take 1 xs ≡ get_or xs 0 d ∷ []
 take-one [] d some = absurd (omega arith)
 take-one (x ∷ xs) d some = refl
 

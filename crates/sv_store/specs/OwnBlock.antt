@@ -1,9 +1,10 @@
 -- Lines of one block, held in memory.
-use Rattle.std.specs.Prelude.{◌≡◌, ◌<◌, ◌≤◌, ◌*◌, ◌==◌, ◌&&◌, ℕ, suc, Bool, true, false, List, [], ◌∷◌, length, map, Option, Some, None, is_none, if◌then◌else◌, count_by, replicate, ◌/◌}
+use Rattle.std.specs.Prelude.{◌≡◌, ◌<◌, ◌≤◌, ◌*◌, ◌==◌, ◌&&◌, ℕ, suc, Bool, true, false, List, [], ◌∷◌, length, map, Option, Some, None, is_none, if◌then◌else◌, count_by, replicate, ◌/◌, ◌+◌, ◌++◌, not, nat_lt, nat_le, slice_range, take, drop}
 use Rattle.std.specs.Option.{ForSome}
-use Rattle.std.specs.List.{All, list_any, slice_index_or}
+use Rattle.std.specs.List.{All, list_all, list_any, slice_index_or}
 use Rattle.sv_form.specs.declared.geometry.Geometry.{Geometry}
-use Rattle.sv_store.specs.Held.{Held, Lent, Both, line_of}
+use Rattle.sv_form.specs.declared.owners.LineRange.{LineRange}
+use Rattle.sv_store.specs.Held.{Held, Lent, Both, line_of, in_ranges, chosen, rest, nothing_lent}
 
 -- which lines of a block are held
 pub record Mask : Type 0 where
@@ -87,6 +88,33 @@ holds_any e = list_any (λ x. x) e.lines
 unfoldable pub left : (OwnBlock → OwnBlock) → List OwnBlock → List OwnBlock
 left f [] = []
 left f (e ∷ es) = if holds_any (f e) then f e ∷ left f es else left f es
+
+-- all of so many lines from one on are held, and there are some
+unfoldable pub has_all : List Bool → ℕ → ℕ → Bool
+has_all lines first count = nat_lt first (first + count) && (nat_le (first + count) (length lines) && list_all (λ x. x) (slice_range lines first (first + count)))
+
+-- no line is held before the first of so many lines, or after the last
+unfoldable pub has_none_else : List Bool → ℕ → ℕ → Bool
+has_none_else lines first count = not (list_any (λ x. x) (take first lines)) && not (list_any (λ x. x) (drop (first + count) lines))
+
+-- all lines of a range are held here, and there are some
+unfoldable pub holds_range : LineRange → OwnBlock → Bool
+holds_range r e = (e.block == r.block) && has_all e.lines r.first r.count
+
+-- one entry more: the lines of an entry that stand in these ranges, with bytes of their own to lend
+pub record AddsCopy (lines : List LineRange) (e : OwnBlock) (old new : List OwnBlock) : Type 0 where
+  pub bytes : List ℕ
+  pub size : length bytes ≡ length e.kept
+  pub added : new ≡ old ++ (record (copied (in_ranges lines) e) { spare = Some bytes }) ∷ []
+
+-- the lines of these ranges have moved from one list to another, where they can be lent; nothing else has changed
+pub record Moves (g : Geometry) (lines : List LineRange) (old taken new more : List OwnBlock) : Type 0 where
+  pub sound : IsSound g new
+  pub other : IsSound g more
+  pub home : lent_of more ≡ nothing_lent
+  pub lends : lent_of new ≡ lent_of old
+  pub stays : held_of new ≡ rest lines (held_of old)
+  pub goes : held_of more ≡ Both (held_of taken) (chosen lines (held_of old))
 
 -- all lines of block b, with these bytes
 abbrev pub whole_block : Geometry → ℕ → List ℕ → OwnBlock

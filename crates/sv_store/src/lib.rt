@@ -10,6 +10,7 @@
 mod buf;
 mod clients;
 mod own_block;
+mod own_cut;
 mod own_stake;
 mod refusal;
 mod stake;

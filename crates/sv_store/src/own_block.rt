@@ -1,12 +1,12 @@
 // Lines of blocks in a linked list: each operation goes over the list once, and takes no memory.
 ghost use Rattle.std.specs.Prelude.{◌≡◌, ◌≢◌, ◌<◌, ◌≤◌, ◌+◌, ◌*◌, ◌++◌, ◌==◌, ℕ, List, Some, None, true, IsSome, length, map, take, drop, slice_set, slice_index_or, if◌then◌else◌, IfSome, IsTrue, false, unwrap_or, replicate, IfOk, OnOk, not, ◌∷◌, []};
-ghost use Rattle.std.specs.List.{position, list_any, All};
+ghost use Rattle.std.specs.List.{position, list_all, list_any, All};
 ghost use Rattle.std.specs.LinkedList.{linked_list_len};
 ghost use Rattle.sv_form.specs.Geometry.{IsGeometry};
 ghost use Rattle.sv_store.specs.Calls.{CanGet};
 ghost use Rattle.sv_store.specs.Held.{line_of, in_ranges, covers, put, with, without, nothing_lent, Apart, Both};
 ghost use Rattle.sv_store.specs.Content.{block_bytes};
-ghost use Rattle.sv_store.specs.OwnBlock.{nowhere, is_out, filled, line_in, held_of, lent_of, IsSound, masked_lines, masked, copied, holds_any, left, whole_block, whole_blocks};
+ghost use Rattle.sv_store.specs.OwnBlock.{nowhere, is_out, filled, line_in, held_of, lent_of, IsSound, masked_lines, masked, copied, holds_any, left, whole_block, whole_blocks, has_all, has_none_else, holds_range};
 
 use std::alloc::{AllocError, Global};
 use std::collections::LinkedList;
@@ -102,14 +102,14 @@ impl Own {
     }
 
     // Whether any line is held here.
-    fn holds_any(&self) -> bool
+    pub(crate) fn holds_any(&self) -> bool
         ensures { result ≡ holds_any self.now }
     {
         self.lines.iter().any(|held| *held)
     }
 
     // The chosen lines, with vectors of their own.
-    fn copy_of(&self, alloc: Global, chosen: Vec<bool>) -> Result<Own, AllocError>
+    pub(crate) fn copy_of(&self, alloc: Global, chosen: Vec<bool>) -> Result<Own, AllocError>
         ensures { IfOk result (λ own. own ≡ record { block = self.now.block; lines = chosen.items; kept = self.now.kept; spare = Some self.now.kept }) }
     {
         let kept = Vec::from_slice(alloc, self.kept.as_slice())?;
@@ -122,8 +122,24 @@ impl Own {
         })
     }
 
+    #[tactic(auto, unfolding(crate::specs::OwnBlock::holds_range))]
+    // Whether all lines of a range, which has some, are held here.
+    pub(crate) fn holds_range(&self, range: LineRange) -> bool
+        ensures { result ≡ holds_range range self.now }
+    {
+        self.block == range.block && has_all(self.lines.as_slice(), range.first, range.count)
+    }
+
+    // Whether no line is held here but those of a range.
+    pub(crate) fn holds_only(&self, range: LineRange) -> bool
+        requires { range.first + range.count ≤ length self.now.lines }
+        ensures { result ≡ has_none_else self.now.lines range.first range.count }
+    {
+        has_none_else(self.lines.as_slice(), range.first, range.count)
+    }
+
     // Which of the held lines stand in these ranges.
-    fn chosen(&self, alloc: Global, lines: &[LineRange]) -> Result<Vec<bool>, AllocError>
+    pub(crate) fn chosen(&self, alloc: Global, lines: &[LineRange]) -> Result<Vec<bool>, AllocError>
         requires { length self.now.lines ≤ 65536 }
         ensures { IfOk result (λ chosen. chosen.items ≡ masked_lines (in_ranges lines.now self.now.block) 0 self.now.lines) }
     {
@@ -131,7 +147,7 @@ impl Own {
     }
 
     // Gives the lines of these ranges away.
-    fn lose(&mut self, lines: &[LineRange])
+    pub(crate) fn lose(&mut self, lines: &[LineRange])
         requires { length self.old.lines ≤ 65536 }
         ensures { self.new ≡ masked (λ b l. not (in_ranges lines.now b l)) self.old }
     {
@@ -453,6 +469,34 @@ fn is_any(lines: &[bool]) -> bool
     ensures { result ≡ list_any (λ x. x) lines.now }
 {
     lines.iter().any(|held| *held)
+}
+
+// Whether all of these are true.
+fn are_all(lines: &[bool]) -> bool
+    ensures { result ≡ list_all (λ x. x) lines.now }
+{
+    lines.iter().all(|held| *held)
+}
+
+#[tactic(auto, unfolding(crate::specs::OwnBlock::has_all))]
+// Whether so many lines from one on are all held, and there are some.
+fn has_all(lines: &[bool], first: u8, count: u8) -> bool
+    ensures { result ≡ has_all lines.now first count }
+{
+    let from = usize::from(first);
+    let end = from + usize::from(count);
+    from < end && (end <= lines.len() && are_all(&lines[from..end]))
+}
+
+#[tactic(auto, unfolding(crate::specs::OwnBlock::has_none_else))]
+// Whether no line is held before the first of so many lines, or after the last.
+fn has_none_else(lines: &[bool], first: u8, count: u8) -> bool
+    requires { first + count ≤ length lines.now }
+    ensures { result ≡ has_none_else lines.now first count }
+{
+    let from = usize::from(first);
+    let end = from + usize::from(count);
+    !is_any(&lines[..from]) && !is_any(&lines[end..])
 }
 
 // Adds a copy of those lines of an entry that stand in the ranges, if there are any.

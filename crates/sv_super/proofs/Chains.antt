@@ -12,37 +12,37 @@ use Rattle.sv_super.proofs.Counts.{apart, other, times-first, times-cons}
 use Rattle.sv_super.proofs.Fronts.{block_list, list_of-is}
 
 pub chain-nil : (h : Held) (list : List ℕ) → IsChain h list [] → list ≡ 0 ∷ []
-unfolding IsChain
+unfolding Rattle.sv_form.specs.FreeChain.IsChain
 chain-nil h list p = p
 
 pub chain-empty : (h : Held) (list : List ℕ) → list ≡ 0 ∷ [] → IsChain h list []
-unfolding IsChain
+unfolding Rattle.sv_form.specs.FreeChain.IsChain
 chain-empty h list p = p
 
 pub chain-next : (h : Held) (list : List ℕ) (b : ℕ) (rest : List ℕ) → IsChain h list (b ∷ rest) → IsNext h list b
-unfolding IsChain
+unfolding Rattle.sv_form.specs.FreeChain.IsChain
 chain-next h list b rest p = p.0
 
 pub chain-rest : (h : Held) (list : List ℕ) (b : ℕ) (rest : List ℕ) → IsChain h list (b ∷ rest) → IsChain h (after h list) rest
-unfolding IsChain
+unfolding Rattle.sv_form.specs.FreeChain.IsChain
 chain-rest h list b rest p = p.1
 
 pub chain-more : (h : Held) (list old : List ℕ) (b : ℕ) (rest : List ℕ) → IsNext h list b → after h list ≡ old → IsChain h old rest → IsChain h list (b ∷ rest)
-unfolding IsChain
+unfolding Rattle.sv_form.specs.FreeChain.IsChain
 chain-more h list old b rest next e p = (next, subst (λ q. IsChain h q rest) (sym e) p)
 
 pub length-taken : (n : ℕ) (h : Held) (list : List ℕ) → length (taken n h list) ≡ n
-unfolding taken
+unfolding Rattle.sv_form.specs.FreeChain.taken
 length-taken zero h list = refl
 length-taken (suc n) h list = ap suc (length-taken n h (after h list))
 
 pub taken-more : (n : ℕ) (h : Held) (list : List ℕ) → taken (suc n) h list ≡ last list ∷ taken n h (after h list)
-unfolding taken
+unfolding Rattle.sv_form.specs.FreeChain.taken
 taken-more n h list = refl
 
 -- the chain from a list on is what is taken
 pub taken-chain : (h : Held) (order list : List ℕ) → IsChain h list order → taken (length order) h list ≡ order
-unfolding IsChain taken
+unfolding Rattle.sv_form.specs.FreeChain.IsChain Rattle.sv_form.specs.FreeChain.taken
 taken-chain h [] list p = refl
 taken-chain h (b ∷ rest) list p =
     let first = p.0.last in
@@ -54,7 +54,7 @@ taken-is h order list n p e = ap (λ q. taken q h list) e ∙ taken-chain h orde
 
 -- the chain depends on the lines of its own blocks alone
 pub frame : (h h' : Held) (order list : List ℕ) → ((b : ℕ) → 0 < times b order → h' b ≡ h b) → IsChain h list order → IsChain h' list order
-unfolding IsChain after
+unfolding Rattle.sv_form.specs.FreeChain.IsChain Rattle.sv_form.specs.FreeChain.after
 frame h h' [] list same p = p
 frame h h' (b ∷ rest) list same p =
     let here : h' b ≡ h b = same b (let e = times-first b rest in omega arith) in
@@ -73,7 +73,7 @@ frame h h' (b ∷ rest) list same p =
 
 -- a list with one number more
 pub after-snoc : (h : Held) (list : List ℕ) (b : ℕ) → 1 ≤ length list → after h (list ++ b ∷ []) ≡ list
-unfolding after
+unfolding Rattle.sv_form.specs.FreeChain.after
 after-snoc h list b some =
     let long : length (list ++ b ∷ []) ≡ length list + 1 = length-append list (b ∷ []) in
     let ne : length (list ++ b ∷ []) ≢ 1 = omega arith in
@@ -94,7 +94,7 @@ next-snoc h list b some named =
 
 -- a list whose only number is a link block
 pub after-link : (h : Held) (list : List ℕ) (b : ℕ) → HasList (h b) list → after h (b ∷ []) ≡ list
-unfolding after
+unfolding Rattle.sv_form.specs.FreeChain.after
 after-link h list b has = list_of-is (h b) list has
 
 pub next-link : (h : Held) (list : List ℕ) (b : ℕ) → HasList (h b) list → b ≢ 0 → IsNext h (b ∷ []) b
@@ -109,13 +109,13 @@ next-link h list b has named = record {
 
 -- what comes after a list of more than one
 pub after-long : (h : Held) (list : List ℕ) → 1 < length list → after h list ≡ take (length list - 1) list
-unfolding after
+unfolding Rattle.sv_form.specs.FreeChain.after
 after-long h list long =
     let ne : length list ≢ 1 = omega arith in
     ap (λ t. cond t (list_of (h (last list))) (take (length list - 1) list)) (other (length list) 1 ne)
 
 pub after-one : (h : Held) (list : List ℕ) → length list ≡ 1 → after h list ≡ list_of (h (last list))
-unfolding after
+unfolding Rattle.sv_form.specs.FreeChain.after
 after-one h list one = ap (λ n. cond (n == 1) (list_of (h (last list))) (take (length list - 1) list)) one
 
 -- the list with which a chain begins can be spelled

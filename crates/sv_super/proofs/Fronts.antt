@@ -48,7 +48,6 @@ line-got {o} {h} {b} {buf} gets holds l low = by (h b l) (gets.lines l) (holds.a
 
 -- a list fixes what is read
 pub list_of-is : (lines : ℕ → Option (List ℕ)) (list : List ℕ) → HasList lines list → list_of lines ≡ list
-unfolding list_of
 list_of-is lines list has =
     ext_get_or 0 (map number (range_with_len 0 (number16 (front lines) 0))) list (long ∙ has.spelled.numbers.count)
     (λ k low. get_or-map-range_with_len number 0 (number16 (front lines) 0) k k 0 (omega (arith, low, long)) (omega arith) ∙ has.spelled.numbers.table k (omega (arith, low, long, has.spelled.numbers.count, has.spelled.numbers.fits)))

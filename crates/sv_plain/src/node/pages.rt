@@ -1,28 +1,31 @@
 // The pages of a node once bytes are put into it.
-ghost use Rattle.std.specs.Prelude.{◌≡◌, ◌<◌, ◌≤◌, ◌+◌, ◌*◌, ◌/◌, IfOk, IsSome, length};
+ghost use Rattle.std.specs.Prelude.{◌≡◌, ◌<◌, ◌≤◌, ◌+◌, ◌-◌, ◌*◌, ◌/◌, ◌&&◌, IfOk, IsSome, length, nat_le, nat_lt, slice_index, option_copied, if◌then◌else◌};
 ghost use Rattle.std.specs.FinMap as map;
 ghost use Rattle.sv_plain.specs.Fs.{with_page};
-ghost use Rattle.sv_form.specs.NodeChanges.{byte_after, page_after};
+ghost use Rattle.sv_form.specs.Node.{page_byte};
+ghost use Rattle.sv_form.specs.NodeChanges.{page_after};
 
+use super::entries::byte_of_page;
 use crate::{NoMemory, Node};
 use std::alloc::Global;
 use sv_form::Bytes;
 
-impl Node {
-    // Byte k once these bytes were put at `at`.
-    fn byte_after(&self, block: u32, at: u32, bytes: &[u8], k: u32) -> u8
-        requires { 0 < block }
-        ensures { result ≡ byte_after block self.now at bytes.now k }
-    {
-        if k < at {
-            return self.byte(block, k);
-        }
-        match bytes.get((k - at) as usize) {
-            Some(byte) => *byte,
-            None => self.byte(block, k),
-        }
+// Byte r of a page that begins at byte `first`, once these bytes were put at `at`. The page is as it was before, or absent.
+fn byte_after(page: Option<&[u8]>, at: u32, bytes: &[u8], first: u32, r: u32) -> u8
+    requires { first + r ≤ 4294967295 }
+    ensures { result ≡ (if nat_le at (first + r) && nat_lt (first + r) (at + length bytes.now) then slice_index bytes.now (first + r - at) else page_byte (option_copied page.entry) r) }
+{
+    let k = first + r;
+    if k < at {
+        return byte_of_page(page, r);
     }
+    match bytes.get((k - at) as usize) {
+        Some(byte) => *byte,
+        None => byte_of_page(page, r),
+    }
+}
 
+impl Node {
     // The page once these bytes were put at `at`.
     pub(crate) fn page_after(
         &self,
@@ -37,9 +40,10 @@ impl Node {
         ensures { IfOk result (λ b. b ≡ page_after block self.now at bytes.now page) }
     {
         let first = page * block;
+        let before = self.page(page);
         let mut after = Vec::new(alloc);
         for r in 0..block {
-            after.push(self.byte_after(block, at, bytes, first + r))?;
+            after.push(byte_after(before, at, bytes, first, r))?;
         }
         Ok(Bytes::from_vec(after))
     }

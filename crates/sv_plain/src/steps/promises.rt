@@ -3,7 +3,6 @@ ghost use Rattle.std.specs.Prelude.{◌≡◌, ◌+◌, nat_lt, OnOk, OnErr, IfE
 ghost use Rattle.std.specs.FinMap as map;
 ghost use Rattle.sv_plain.specs.declared.op.Op.TheVariants as op;
 ghost use Rattle.sv_plain.specs.Names.{some_and};
-ghost use Rattle.sv_plain.specs.Needs.{need_of};
 ghost use Rattle.sv_plain.specs.Step.{writes, promise_allowed, is_too_big, promise_replies, forgo_replies, sync_replies};
 ghost use Rattle.sv_plain.specs.Taken.{IsTaken, IsRefused};
 ghost use Rattle.sv_plain.specs.Whole.{IsWhole};
@@ -59,27 +58,15 @@ impl Fs {
         }
     }
 
-    // How many blocks the step takes at most.
-    fn need_of(&self, need: &Need) -> u32
-        ensures { result ≡ need_of self.now need.now }
-    {
-        match need {
-            Need::Write { file, count } => self.write_need(*file, *count),
-            Need::Enter { dir, name } => self.enter_need(*dir, name),
-            Need::Make { dir, name } => self.make_need(*dir, name),
-        }
-    }
-
     fn answers_promise(&self, need: &Need, reply: &Reply) -> bool
         ensures { result ≡ promise_replies self.now need.now reply.now }
     {
         if self.is_too_big(need) {
             return matches!(reply, Reply::TooBig | Reply::Fault);
         }
-        let blocks = self.need_of(need);
         match reply {
-            Reply::NoSpace => self.room() < u64::from(blocks),
-            Reply::Granted(n) => u64::from(blocks) <= self.room() && *n == blocks,
+            Reply::NoSpace => self.exceeds_room(need),
+            Reply::Granted(n) => self.takes_room(need, *n),
             Reply::Fault => true,
             _ => false,
         }

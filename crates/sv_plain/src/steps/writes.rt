@@ -41,7 +41,7 @@ impl Fs {
 
     // How many blocks a page takes that node i does not use, and that the pages from `first` on to the one before it do
     // not take either: where one of them has a block of this page, the page before it has it.
-    fn page_need(&self, i: u16, first: u32, page: u32) -> u32
+    pub(crate) fn page_need(&self, i: u16, first: u32, page: u32) -> u32
         requires { first ≤ page }
         ensures count { result ≡ count_by (is_new (node_blocks self.now i) (if page == first then [] else blocks_at (numbers_per self.now.block) (page - 1))) (blocks_at (numbers_per self.now.block) page) }
         ensures few { result ≤ 4 }

@@ -30,7 +30,7 @@ pub(super) fn begun(alloc: Global) -> Result<Fs, NoMemory>
     ensures { IfOk result IsWhole }
 {
     let mut fs = new_tree(alloc)?;
-    begin(&mut fs, alloc, 1, 100)?;
+    begin(alloc, &mut fs, 1, 100)?;
     Ok(fs)
 }
 
@@ -40,7 +40,7 @@ pub(super) fn take_all(fs: &mut Fs, alloc: Global, steps: &[(Op, Reply)]) -> Res
     ensures { IsWhole fs.new }
 {
     for (op, reply) in steps {
-        apply(fs, alloc, 1, op, reply)?;
+        apply(alloc, fs, 1, op, reply)?;
     }
     Ok(())
 }
@@ -186,7 +186,7 @@ fn run(fs: &mut Fs, alloc: Global) -> Result<(), Illegal>
     let ello = bytes(alloc, b"ello")?;
     take_all(fs, alloc, &looked_at(ello))?;
     take_all(fs, alloc, &ended(home))?;
-    apply(fs, alloc, 0, &Op::Purge, &Reply::Done)
+    apply(alloc, fs, 0, &Op::Purge, &Reply::Done)
 }
 
 #[test]
@@ -202,7 +202,7 @@ inode 4 f 644 links 1 size 6 pages 1
     };
     let outcome = run(&mut fs, alloc);
     assert_eq!(rt; outcome, Ok(()));
-    match listing(&fs, alloc) {
+    match listing(alloc, &fs) {
         Ok(text) => assert_eq!(rt; text.as_slice(), want.as_slice()),
         Err(_) => assert!(rt; false),
     }

@@ -21,7 +21,7 @@ fn first_unlike(fs: &mut Fs, alloc: Global, steps: &[Refusal]) -> Option<usize>
 {
     for i in 0..steps.len() {
         let (op, reply, cause) = &steps[i];
-        if apply(fs, alloc, 1, op, reply) != Err(*cause) {
+        if apply(alloc, fs, 1, op, reply) != Err(*cause) {
             return Some(i);
         }
     }
@@ -276,7 +276,7 @@ fn late_purge(fs: &mut Fs, alloc: Global) -> Result<Option<Illegal>, Illegal>
         (Op::Drop { ino: 2 }, Reply::Kept),
     ];
     take_all(fs, alloc, &ended)?;
-    Ok(apply(fs, alloc, 0, &Op::Purge, &Reply::Late).err())
+    Ok(apply(alloc, fs, 0, &Op::Purge, &Reply::Late).err())
 }
 
 #[test]

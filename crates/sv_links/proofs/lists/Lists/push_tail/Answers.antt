@@ -1,33 +1,47 @@
-use Rattle.std.proofs.Common.{ℕ, ◌∷◌, [], ◌++◌, ◌∙◌, sym, ap, subst, length, set, List, ◌<◌}
-use Rattle.std.proofs.lemmas.Bool.{cond-true}
-use Rattle.sv_links.specs.Arrangement.{Arrangement, IsOnNone, list_at}
-use Rattle.sv_links.specs.Keeping.{arrangement}
-use Rattle.sv_links.proofs.Times.{times-push}
-use Rattle.sv_links.proofs.Kept.{Push, push-kept, push-view, list-vector, arranged, in_vectors}
+use Rattle.std.proofs.Common.{refl, Some}
+use Rattle.std.specs.Vec.{with_item}
+use Rattle.sv_links.specs.declared.lists.Lists.TheInside.{Inside}
+use Rattle.sv_links.proofs.Kept.{Pushes, tail-can, tail-left, arranged}
 use Rattle.sv_links.proofs.lists.Lists.push_tail.Goals as goal
-use Rattle.sv_links.proofs.lists.Lists.push_tail.Goals.{After-push}
+use Rattle.sv_links.proofs.lists.Lists.push_tail.Goals.{After-put_first}
 
-push : (c : After-push) → Push c.self.inside c.args.list c.args.x c.index_mut-numbers.result.now c.push.new.self (list_at (arrangement c.self.inside) c.args.list ++ c.args.x ∷ [])
-push c =
-    let inside : c.args.list < length (arrangement c.self.inside).lists = subst (λ (v : Arrangement). c.args.list < length v.lists) (sym c.self.view_is) c.requires.list_in_range in
-    record {
-      list_in_range = inside;
-      number_in_range = subst (λ (v : Arrangement). c.args.x < v.numbers) (sym c.self.view_is) c.requires.number_in_range;
-      on_none = subst (λ (v : Arrangement). IsOnNone v c.args.x) (sym c.self.view_is) c.requires.on_none;
-      before = c.index_mut-numbers.ensures.value;
-      filled = λ room. c.push.ensures.items ∙ cond-true _ _ _ (c.push.ensures.succeeds room) ∙ ap (λ (ys : List ℕ). ys ++ c.args.x ∷ []) (list-vector c.self.inside c.args.list c.index_mut-numbers.result.now (in_vectors c.self.inside c.args.list inside) c.index_mut-numbers.ensures.value);
-      capacity = c.push.ensures.capacity;
-      counts = λ y. times-push c.args.x y (list_at (arrangement c.self.inside) c.args.list);
-    }
+pub put_first-requires-clause-back : goal.put_first-requires-clause-back
+put_first-requires-clause-back c =
+    let can = tail-can c.self.inside c.args.self.now c.args.list c.args.x (record {
+      kept = c.self.invariant;
+      view = c.self.view_is;
+      list_in_range = c.requires.list_in_range;
+      number_in_range = c.requires.number_in_range;
+      on_none = c.requires.on_none;
+    })
+    in can.back
+
+abbrev after : After-put_first → Inside
+after c = record { places = with_item c.self.inside.places c.args.x (Some c.args.list); forwards = c.put_first.new.back; backwards = c.put_first.new.forth }
+
+pushes : (c : After-put_first) → Pushes c.self.inside c.args.self.now c.args.list c.args.x
+pushes c = record {
+  kept = c.self.invariant;
+  view = c.self.view_is;
+  list_in_range = c.requires.list_in_range;
+  number_in_range = c.requires.number_in_range;
+  on_none = c.requires.on_none;
+}
 
 pub invariant_of-self : goal.invariant_of-self
-invariant_of-self c = push-kept c.self.inside c.args.list c.args.x _ _ _ c.self.invariant (push (goal.at.invariant_of-self c).After-push)
+invariant_of-self c =
+    let h = (goal.at.invariant_of-self c).After-put_first in
+    let left = tail-left c.self.inside (after h) c.args.self.now c.args.list c.args.x (pushes h) refl c.put_first.ensures.forth c.put_first.ensures.back in
+    left.kept
 
 pub returns-clause-pushed : goal.returns-clause-pushed
 returns-clause-pushed c =
-    push-view c.self.inside c.args.list c.args.x _ _ _ c.self.invariant (push (goal.at.returns-clause-pushed c).After-push)
-    ∙ ap (λ (v : Arrangement). record v { lists = set v.lists c.args.list (list_at v c.args.list ++ c.args.x ∷ []) }) c.self.view_is
+    let h = (goal.at.returns-clause-pushed c).After-put_first in
+    let left = tail-left c.self.inside (after h) c.args.self.now c.args.list c.args.x (pushes h) refl c.put_first.ensures.forth c.put_first.ensures.back in
+    left.view
 
 pub returns-clause-arranged : goal.returns-clause-arranged
 returns-clause-arranged c =
-    arranged _ (push-kept c.self.inside c.args.list c.args.x _ _ _ c.self.invariant (push (goal.at.returns-clause-arranged c).After-push))
+    let h = (goal.at.returns-clause-arranged c).After-put_first in
+    let left = tail-left c.self.inside (after h) c.args.self.now c.args.list c.args.x (pushes h) refl c.put_first.ensures.forth c.put_first.ensures.back in
+    arranged (after h) left.kept

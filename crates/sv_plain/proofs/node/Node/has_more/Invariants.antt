@@ -1,6 +1,10 @@
-use Rattle.std.proofs.Common.{◌≡◌, ◌==◌, ℕ, ◌<◌, ◌≤◌, true}
+use Rattle.std.proofs.Common.{option_copied, ◌≡◌, ◌==◌, ℕ, ◌<◌, ◌≤◌, true}
+use Rattle.std.specs.FinMap as map
 use Rattle.sv_form.specs.Node.{entry_inode}
 use Rattle.sv_plain.proofs.node.Node.has_more.Given as goal
 
 abbrev pub invariant-loop-j : goal.invariant-loop-j
-invariant-loop-j l = (k : ℕ) → 2 ≤ k → k < l.j → (entry_inode l.block l.self k == 0) ≡ true
+invariant-loop-j l = record {
+  none : (k : ℕ) → 2 ≤ k → k < l.j → (entry_inode l.block l.self k == 0) ≡ true;
+  page : option_copied l.near.1 ≡ map.get l.self.pages l.near.0;
+}

@@ -14,26 +14,26 @@ loop-k-init c =
 pub returns-then-place-name : goal.returns-then-place-name
 returns-then-place-name c =
     let first : ℕ = c.place_in_bytes-first.result + 2 in
-    ap (λ b. b == 0) c.byte-byte.ensures
+    ap (λ b. b == 0) c.byte_near-byte.ensures
     ∙ sym (c.loop-k.invariant.same ∙ name-ends c.args.block c.args.self.now first c.args.name.now c.loop-k.k (omega arith) (omega arith))
 
 pub returns-then-byte-eq0 : goal.returns-then-byte-eq0
 returns-then-byte-eq0 c =
     let first : ℕ = c.place_in_bytes-first.result + 2 in
-    let zero_byte : byte_of c.args.block c.args.self.now (first + c.loop-k.k) ≡ 0 = omega (arith, c.byte-byte.ensures, c.if-byte-eq0.true) in
+    let zero_byte : byte_of c.args.block c.args.self.now (first + c.loop-k.k) ≡ 0 = omega (arith, c.byte_near-byte.ensures, c.if-byte-eq0.true) in
     sym (c.loop-k.invariant.same ∙ name-zero c.args.block c.args.self.now first c.args.name.now c.loop-k.k (omega arith) (omega arith) zero_byte)
 
 pub returns-then-byte-name : goal.returns-then-byte-name
 returns-then-byte-name c =
     let first : ℕ = c.place_in_bytes-first.result + 2 in
-    let other : byte_of c.args.block c.args.self.now (first + c.loop-k.k) ≢ get_or c.args.name.now c.loop-k.k 0 = λ e. c.if-byte-name.true (c.byte-byte.ensures ∙ e) in
+    let other : byte_of c.args.block c.args.self.now (first + c.loop-k.k) ≢ get_or c.args.name.now c.loop-k.k 0 = λ e. c.if-byte-name.true (c.byte_near-byte.ensures ∙ e) in
     sym (c.loop-k.invariant.same ∙ name-differs c.args.block c.args.self.now first c.args.name.now c.loop-k.k (omega arith) (omega arith) other)
 
 pub loop-k-preserved : goal.loop-k-preserved
 loop-k-preserved c =
     let first : ℕ = c.place_in_bytes-first.result + 2 in
-    let same : byte_of c.args.block c.args.self.now (first + c.loop-k.k) ≡ get_or c.args.name.now c.loop-k.k 0 = sym c.byte-byte.ensures ∙ c.if-byte-name.false in
-    let some : byte_of c.args.block c.args.self.now (first + c.loop-k.k) ≢ 0 = λ e. c.if-byte-eq0.false (c.byte-byte.ensures ∙ e) in
+    let same : byte_of c.args.block c.args.self.now (first + c.loop-k.k) ≡ get_or c.args.name.now c.loop-k.k 0 = sym c.byte_near-byte.ensures ∙ c.if-byte-name.false in
+    let some : byte_of c.args.block c.args.self.now (first + c.loop-k.k) ≢ 0 = λ e. c.if-byte-eq0.false (c.byte_near-byte.ensures ∙ e) in
     record {
       within = omega arith;
       same = c.loop-k.invariant.same ∙ name-same c.args.block c.args.self.now first c.args.name.now c.loop-k.k (omega arith) (omega arith) same some;

@@ -8,8 +8,8 @@ pub returns-then-is_entry : goal.returns-then-is_entry
 unfolding place_of
 returns-then-is_entry c =
     let within : c.loop-j.j < entry_count c.args.self.now = omega arith in
-    sym (first_place (is_entry c.args.block c.args.self.now c.args.name.now) (entry_count c.args.self.now) c.loop-j.j within c.loop-j.invariant (sym c.is_entry.ensures ∙ c.if-is_entry.true))
+    sym (first_place (is_entry c.args.block c.args.self.now c.args.name.now) (entry_count c.args.self.now) c.loop-j.j within c.loop-j.invariant.none (sym c.is_entry.ensures ∙ c.if-is_entry.true))
 
 pub returns : goal.returns
 unfolding place_of
-returns c = sym (no_place (is_entry c.args.block c.args.self.now c.args.name.now) (entry_count c.args.self.now) (λ k h. c.loop-j.invariant k (omega arith)))
+returns c = sym (no_place (is_entry c.args.block c.args.self.now c.args.name.now) (entry_count c.args.self.now) (λ k h. c.loop-j.invariant.none k (omega arith)))

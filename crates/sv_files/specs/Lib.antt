@@ -1,0 +1,6 @@
+pub mod ConverseChain
+pub mod ConverseInodes
+pub mod ConverseLines
+pub mod ConverseNames
+pub mod ConversePages
+pub mod ConverseSound

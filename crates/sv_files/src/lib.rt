@@ -1,0 +1,19 @@
+//! From an image to the lines that a stake holds, and back: laws over the definitions of the crates below, without code.
+//!
+//! - `closed_is_sound` gives a sound image, whose tree is the nodes, from the lines of a file system that was closed. Each other
+//!   law is a part of it, from what alone it needs.
+//! - `flushed_is_sized`, `flushed_is_chained` and `flushed_is_cached` give the conditions 1 to 3 and 10 to 12 from the lines of a
+//!   flushed core.
+//! - `nodes_have_inodes`, `nodes_are_walked_once`, `nodes_are_paged_well` and `nodes_are_tree` give the conditions 4 to 9, and the
+//!   tree, from the lines that stand for the nodes.
+//! - `nodes_are_named` gives the conditions 13 to 16 from the nodes of a whole file system at rest.
+//! - `sound_is_at_rest` says that each sound image meets what this asks, and `purged_is_at_rest` when a file system is at rest.
+#![tactic(auto)]
+
+mod converse;
+
+pub use converse::{
+    closed_is_sound, flushed_is_cached, flushed_is_chained, flushed_is_sized, nodes_are_named,
+    nodes_are_paged_well, nodes_are_tree, nodes_are_walked_once, nodes_have_inodes,
+    purged_is_at_rest, sound_is_at_rest,
+};
