@@ -89,11 +89,17 @@ module _ (words : List (String Global)) (a b c d : String Global) (least : 4 ≤
       numbered ∙ ap (λ (w : List ℕ). w ∷ string_bytes b ∷ decimal m ∷ decimal n ∷ []) (sym is_command ∙ same_text command (codes "mkfs") is_mkfs)
       ∙ ap (λ (w : List ℕ). codes "mkfs" ∷ w ∷ decimal m ∷ decimal n ∷ []) (sym is_image)
 
-  -- where the words are a `mkfs` at all, its numbers are these
-  pub mkfs_numbers : (m < 2 ^ 32) → (n < 2 ^ 32) → (image : List ℕ) (blocks inodes : ℕ) → CanBeMade blocks inodes
-      → map string_bytes words ≡ codes "mkfs" ∷ image ∷ decimal blocks ∷ decimal inodes ∷ [] → CanBeMade m n
-  mkfs_numbers small few image blocks inodes can is =
-      let texts = sym numbered ∙ is in
-      let same : m ≡ blocks = decimal_injective m blocks (omega arith) (omega (arith, can.most_blocks)) (ap (λ (ws : List (List ℕ)). get_or ws 2 []) texts) in
-      let too : n ≡ inodes = decimal_injective n inodes (omega arith) (omega (arith, can.most_inodes)) (ap (λ (ws : List (List ℕ)). get_or ws 3 []) texts) in
-      subst (λ (k : ℕ). CanBeMade k n) (sym same) (subst (λ (k : ℕ). CanBeMade blocks k) (sym too) can)
+-- the texts of the third and the fourth of four words
+pub mkfs_texts : (words : List (String Global)) (a b c d : String Global) → 4 ≤ length words → length words < 5 → a ≡ get_or words 0 a → b ≡ get_or words 1 b → c ≡ get_or words 2 c → d ≡ get_or words 3 d
+    → (command image blocks inodes : List ℕ) → map string_bytes words ≡ command ∷ image ∷ blocks ∷ inodes ∷ [] → (string_bytes c ≡ blocks) × (string_bytes d ≡ inodes)
+mkfs_texts words a b c d least most first second third fourth command image blocks inodes is =
+    let texts : string_bytes a ∷ string_bytes b ∷ string_bytes c ∷ string_bytes d ∷ [] ≡ command ∷ image ∷ blocks ∷ inodes ∷ [] =
+    sym (ap (map string_bytes) (four words a b c d least most first second third fourth)) ∙ is in
+    (ap (λ (ws : List (List ℕ)). get_or ws 2 []) texts, ap (λ (ws : List (List ℕ)). get_or ws 3 []) texts)
+
+-- two words are two numbers in one way
+pub mkfs_numbers : (blocks inodes : List ℕ) (m n j k : ℕ) → m < 2 ^ 32 → n < 2 ^ 32 → blocks ≡ decimal m → inodes ≡ decimal n → CanBeMade j k → blocks ≡ decimal j → inodes ≡ decimal k → CanBeMade m n
+mkfs_numbers blocks inodes m n j k small few is_m is_n can is_j is_k =
+    let same : m ≡ j = decimal_injective m j (omega arith) (omega (arith, can.most_blocks)) (sym is_m ∙ is_j) in
+    let too : n ≡ k = decimal_injective n k (omega arith) (omega (arith, can.most_inodes)) (sym is_n ∙ is_k) in
+    subst (λ (i : ℕ). CanBeMade i n) (sym same) (subst (λ (i : ℕ). CanBeMade j i) (sym too) can)

@@ -9,7 +9,7 @@ ghost use Rattle.sv_session.specs.Stop.{status_of, line_of, Noted};
 
 use crate::Stop;
 use crate::find::find_file;
-use crate::pages::write_file;
+use crate::pages::{PIECE_BLOCKS, write_file};
 use crate::stop::tell;
 use std::alloc::Global;
 use std::fs::File;
@@ -108,5 +108,6 @@ fn cat_sound<D: Disk, O: Sink>(
     let mut block = vec![in alloc; 0; sizes.block_size as usize]?;
     let (number, size) = find_file(disk, sizes, inode, &mut block)?;
     let pages = read_pages(alloc, disk, sizes, number, &mut block)?;
-    write_file(disk, sizes, &pages, size, &mut block, out)
+    let mut piece = vec![in alloc; 0; PIECE_BLOCKS * sizes.block_size as usize]?;
+    write_file(disk, sizes, &pages, size, &mut piece, out)
 }

@@ -1,5 +1,6 @@
 // The words of the command line.
 ghost use Rattle.std.specs.Prelude.{◌≡◌, ◌≢◌, ◌<◌, ◌≤◌, ◌^◌, ◌↔◌, ℕ, List, map, length, slice_index, string_bytes, decimal, IsTrue, IfSome, IfNone};
+ghost use Rattle.sv_check.specs.Mkfs.{CanBeMade};
 ghost use Rattle.sv_session.specs.Command.{Command, Asks, cat, check, mkfs, replay};
 ghost use Rattle.sv_session.specs.Words.{asked};
 
@@ -111,16 +112,26 @@ fn read_mkfs(words: &[String]) -> Option<Request<'_>>
     if command.as_str() != "mkfs" {
         return None;
     }
-    let blocks = number(blocks.as_str())?;
-    let inodes = number(inodes.as_str())?;
-    if !can_be_made(blocks, inodes) {
-        return None;
-    }
+    let (blocks, inodes) = sizes_of(blocks.as_str(), inodes.as_str())?;
     Some(Request::Mkfs {
         image: image.as_str(),
         blocks,
         inodes,
     })
+}
+
+// The numbers of blocks and inodes that two words are, where there is an image of so many.
+fn sizes_of(blocks: &str, inodes: &str) -> Option<(u32, u32)>
+    ensures some { IfSome result (λ n. (blocks.now ≡ decimal n.0) × (inodes.now ≡ decimal n.1) × CanBeMade n.0 n.1) }
+    ensures none { IfNone result ((m n : ℕ) → CanBeMade m n → blocks.now ≡ decimal m → inodes.now ≡ decimal n → ⊥) }
+{
+    let blocks = number(blocks)?;
+    let inodes = number(inodes)?;
+    if can_be_made(blocks, inodes) {
+        Some((blocks, inodes))
+    } else {
+        None
+    }
 }
 
 // `replay IMAGE JOURNAL`.
