@@ -11,6 +11,7 @@ use Rattle.sv_form.specs.declared.geometry.Geometry.{Geometry}
 use Rattle.sv_form.specs.declared.page_path.PagePath.TheVariants.{Triple}
 use Rattle.sv_store.specs.Held.{Held, Lent, Origin, HoldsBlock, covers, in_ranges, rest}
 use Rattle.sv_store.specs.Calls.{CanPart, Parts}
+use Rattle.sv_store.specs.Numbered.{Numbers}
 use Rattle.sv_store.proofs.Holding.{CanPart-range, IsSome-given, IsSome-kept, eqb_same, in_range-other, is_some-rest, is_some-chosen, none_from}
 use Rattle.sv_bmap.specs.Attach.{CanAttach}
 use Rattle.sv_bmap.specs.Cut.{IsCut}
@@ -23,6 +24,10 @@ use Rattle.sv_bmap.proofs.Needs.{tree-after}
 
 no : (x y : ℕ) → (x == y) ≡ false → x ≢ y
 no x y h = grind (nat_tests, arith)
+
+-- where a stake in memory comes from
+abbrev pub origin_of : Numbers → Geometry → Origin
+origin_of numbers sizes = record { id = numbers.fails; sizes = sizes }
 
 -- all sixteen lines of a block
 abbrev pub all_of : ℕ → LineRange

@@ -206,8 +206,8 @@ found (suc (suc (suc (suc (suc (suc (suc (suc (suc (suc (suc zero))))))))))) ks 
 found (suc (suc (suc (suc (suc (suc (suc (suc (suc (suc (suc (suc zero)))))))))))) ks spot some = triple-spot ks spot some
 found (suc (suc (suc (suc (suc (suc (suc (suc (suc (suc (suc (suc (suc slot))))))))))))) ks spot some = absurd (omega (arith, spot.among))
 
-pub sample-tree : IsTree (record { id = 0; sizes = sizes }) (of_content sizes samples) addresses
-sample-tree = record {
+pub sample-tree : (id : List ℕ) → IsTree (record { id = id; sizes = sizes }) (of_content sizes samples) addresses
+sample-tree id = record {
   whole = λ slot ks spot some. record { at = λ l line. held-content sizes samples (block_at H addresses slot ks) l (omega (arith, (found slot ks spot some).low, length-samples)) line };
   once = λ slot ks other js spot that some same.
       (let one = found slot ks spot some in

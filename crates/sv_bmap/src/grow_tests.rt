@@ -57,7 +57,7 @@ struct Grown {
 fn grow_file<R: Wait>(rt: &R, alloc: Global, failing: u64) -> Result<Grown, Refusal>
     ensures tree { IfOk result (λ file. IsTree (⟦<OwnStake as Stake>⟧.origin file.stake) (⟦<OwnStake as Stake>⟧.held file.stake) file.addresses) }
     ensures lent { IfOk result (λ file. ⟦<OwnStake as Stake>⟧.lent file.stake ≡ nothing_lent) }
-    ensures sizes { IfOk result (λ file. ⟦<OwnStake as Stake>⟧.origin file.stake ≡ record { id = 0; sizes = record { block_size = 1024; blocks = 200; first_data = 3 } }) }
+    ensures sizes { IfOk result (λ file. ⟦<OwnStake as Stake>⟧.origin file.stake ≡ record { id = failing ∷ []; sizes = record { block_size = 1024; blocks = 200; first_data = 3 } }) }
 {
     let fails = vec![in alloc; failing; 1]?;
     let mut stake = zero_stake(alloc, fails)?;

@@ -149,6 +149,21 @@ impl<D> CacheCore<D> {
         self.headers[buffer as usize].is_marked()
     }
 
+    /// The buffer that names the block, free or busy. Nothing is taken.
+    pub fn find(&self, block: u32) -> Option<u32>
+        ensures holder { result ≡ holder self.now block }
+        ensures lawful { IsLawful self.now }
+    {
+        let mut next = self.queues.first(block % HASH_QUEUES);
+        while let Some(buffer) = next {
+            if self.headers[buffer as usize].names(block) {
+                return Some(buffer);
+            }
+            next = self.queues.next(buffer);
+        }
+        None
+    }
+
     /// The block that the buffer names.
     pub fn block_of(&self, buffer: u32) -> Option<u32>
         requires in_range { buffer < length self.now.buffers }
@@ -217,21 +232,6 @@ impl<D> CacheCore<D> {
             device,
         } = self;
         device
-    }
-
-    /// The buffer that names the block, by its hash queue.
-    fn find(&self, block: u32) -> Option<u32>
-        ensures holder { result ≡ holder self.now block }
-        ensures lawful { IsLawful self.now }
-    {
-        let mut next = self.queues.first(block % HASH_QUEUES);
-        while let Some(buffer) = next {
-            if self.headers[buffer as usize].names(block) {
-                return Some(buffer);
-            }
-            next = self.queues.next(buffer);
-        }
-        None
     }
 
     /// Takes the head of the free list for a block that no buffer names: scenarios 2, 3 and 4.

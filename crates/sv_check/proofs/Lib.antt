@@ -74,3 +74,4 @@ mod MadeSound
 mod MadeSuper
 mod MadeWalk
 mod SpelledNumbers
+mod FreedLists

@@ -7,6 +7,7 @@ pub mod Directories
 pub mod EntrySteps
 pub mod Fault
 pub mod FilePages
+pub mod Freeing
 pub mod FreshWalk
 pub mod InodeCache
 pub mod InodeList

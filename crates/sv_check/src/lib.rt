@@ -6,7 +6,8 @@
 //! - `file_size` and `read_pages` find one file of a sound image, and `free_count` and `used_count` count.
 //! - `load` reads the tree of a sound image into a file system of `sv_plain`.
 //! - `mkfs` makes an image anew, with a root and nothing in it, or says in `MakeFault` why not. What it makes is sound, and a
-//!   law says so of each pair of numbers; `can_be_made` says which numbers have an image.
+//!   law says so of each pair of numbers; another says that its chain is the one that freeing gives. `can_be_made` says which
+//!   numbers have an image.
 //! - `CheckFault` is a refusal with its number and place, a failure of the disk, or want of memory.
 //! - All passes of the check stand inside the crate.
 #![tactic(auto)]
@@ -20,6 +21,7 @@ mod dots;
 mod entries;
 mod fault;
 mod file;
+mod freeing;
 mod inode_cache;
 mod inodes;
 mod line_owners;
@@ -40,6 +42,7 @@ pub use conditions::check;
 pub use counts::{free_count, used_count};
 pub use fault::CheckFault;
 pub use file::{file_size, read_pages};
+pub use freeing::made_chains_are_freed;
 pub use loading::{LoadFault, load};
 pub use made_lists::can_be_made;
 pub use making::{MakeFault, made_images_are_sound, made_images_have_their_sizes, mkfs};

@@ -1,9 +1,13 @@
 -- What stands under names, as a host tells it or not, and what its calls leave there.
-use Rattle.std.specs.Prelude.{◌≡◌, ◌≢◌, ◌⊎◌, ⊤, ℕ, List, Option, Some, None, Result, MatchResult}
+use Rattle.std.specs.Prelude.{◌≡◌, ◌≢◌, ◌⊎◌, ⊤, ℕ, List, Option, Some, None, Result, MatchResult, IfSome, IsSomeAnd}
 
 -- the bytes under each name, where they are told
 abbrev pub Under : Type 0
 Under = Option (List ℕ → Option (List ℕ))
+
+-- where it is told what stands under names, the name is there, and what is left of its source is told: all that stands there
+abbrev pub GivesUnder : Under → List ℕ → Option (List ℕ) → Type 0
+GivesUnder told name left = IfSome told (λ under. IsSomeAnd left (λ bytes. under name ≡ Some bytes))
 
 -- where it is told, this holds of what stood under each name and of what stands there now; what is told stays told
 abbrev pub Both : Under → Under → ((List ℕ → Option (List ℕ)) → (List ℕ → Option (List ℕ)) → Type 0) → Type 0

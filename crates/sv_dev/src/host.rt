@@ -2,7 +2,7 @@
 ghost use Rattle.std.specs.Prelude.{◌≡◌, [], List, ℕ, Option, Some, IfOk, IfSome, replicate};
 ghost use Rattle.std.specs.Option.{option_map};
 ghost use Rattle.sv_dev.specs.Causes.{HasHostCause, counted};
-ghost use Rattle.sv_dev.specs.Names.{PutsUnder, PutsToldUnder};
+ghost use Rattle.sv_dev.specs.Names.{GivesUnder, PutsUnder, PutsToldUnder};
 
 use crate::{Disk, HostFault, Sink, Source};
 use std::alloc::Global;
@@ -86,7 +86,7 @@ pub trait Host {
         alloc: Global,
         name: &str,
     ) -> Result<Self::Source, HostFault>
-        ensures left { IfOk result (λ s. IfSome (texts self.old) (λ under. (under name.now ≡ Self.Source.left s))) }
+        ensures left { IfOk result (λ s. GivesUnder (texts self.old) name.now (Self.Source.left s)) }
         ensures count { IfOk result (λ s. Self.Source.faults s ≡ 0) }
         ensures images { images self.new ≡ images self.old }
         ensures texts { texts self.new ≡ texts self.old }

@@ -64,3 +64,5 @@ pub mod Undone
 pub mod Used
 pub mod UsedPages
 pub mod WrittenPages
+pub mod HistorySteps
+pub mod ShareLaws

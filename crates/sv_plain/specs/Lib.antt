@@ -4,6 +4,7 @@ pub mod Entered
 pub mod Front
 pub mod Fs
 pub mod History
+pub mod HistoryLaws
 pub mod HolderCounts
 pub mod Keeping
 pub mod Laws
@@ -12,6 +13,7 @@ pub mod Missing
 pub mod Names
 pub mod Needs
 pub mod NeedsWithin
+pub mod Shares
 pub mod Step
 pub mod Taken
 pub mod Totals

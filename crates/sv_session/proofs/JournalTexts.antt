@@ -3,6 +3,7 @@ use Rattle.std.proofs.Common.{◌≡◌, ◌≤◌, ◌++◌, ◌∙◌, ℕ, Li
 use Rattle.std.specs.List.{flat_map}
 use Rattle.std.proofs.lemmas.List.{length-append, length-take, take_all}
 use Rattle.sv_plain.specs.declared.entry.Entry.{Entry}
+use Rattle.sv_dev.specs.Names.{GivesUnder}
 use Rattle.sv_journal.specs.declared.journal_fault.JournalFault.TheVariants as faults
 use Rattle.sv_journal.specs.Gather.{Gathers}
 use Rattle.sv_journal.specs.Reading.{IsJournalOf, IsRefused}
@@ -16,27 +17,23 @@ on_text_more texts name P Q more h = (h.0, h.1, more h.0 h.2)
 
 -- ---- what was gathered
 
--- the text: what is told, or else what was gathered
+-- the text: what the source tells, or else what was gathered
 abbrev told_or : Option (List ℕ) → List ℕ → List ℕ
 told_or None bytes = bytes
 told_or (Some left) bytes = left
 
-under_told : (o left : Option (List ℕ)) (bytes : List ℕ) → o ≡ left → IfSome o (λ told. told ≡ told_or left bytes)
-under_told None left bytes is = tt
-under_told (Some told) None bytes is = cc is
-under_told (Some told) (Some whole) bytes is = cc is
-
-named : (texts : Option (List ℕ → Option (List ℕ))) (name : List ℕ) (left : Option (List ℕ)) (bytes : List ℕ) → IfSome texts (λ under. under name ≡ left) → IsTextUnder texts name (told_or left bytes)
-named None name left bytes is = tt
-named (Some under) name left bytes is = under_told (under name) left bytes is
+named : (texts : Option (List ℕ → Option (List ℕ))) (name : List ℕ) (left : Option (List ℕ)) (bytes : List ℕ) → GivesUnder texts name left → IsTextUnder texts name (told_or left bytes)
+named None name left bytes gives = tt
+named (Some under) name None bytes gives = absurd gives
+named (Some under) name (Some whole) bytes gives = gives
 
 front_of : (left : Option (List ℕ)) (bytes : List ℕ) → Gathers left 536870912 bytes → bytes ≡ take 536870913 (told_or left bytes)
 front_of None bytes h = sym (take_all 536870913 bytes h.few)
 front_of (Some whole) bytes h = h.front
 
-pub gathered_text : (texts : Option (List ℕ → Option (List ℕ))) (name : List ℕ) (left : Option (List ℕ)) (bytes : List ℕ) → IfSome texts (λ under. under name ≡ left) → Gathers left 536870912 bytes
+pub gathered_text : (texts : Option (List ℕ → Option (List ℕ))) (name : List ℕ) (left : Option (List ℕ)) (bytes : List ℕ) → GivesUnder texts name left → Gathers left 536870912 bytes
     → OnText texts name (λ text. bytes ≡ take 536870913 text)
-gathered_text texts name left bytes is h = (told_or left bytes, named texts name left bytes is, front_of left bytes h)
+gathered_text texts name left bytes gives h = (told_or left bytes, named texts name left bytes gives, front_of left bytes h)
 
 -- ---- what was read of it
 

@@ -1,5 +1,5 @@
 -- What `replay` answers, for each way that it ends.
-use Rattle.std.specs.Prelude.{◌≡◌, ◌⊎◌, ◌+◌, ℕ, List, Option, IfSome}
+use Rattle.std.specs.Prelude.{◌≡◌, ◌⊎◌, ◌+◌, ℕ, List, Option, Some, IfSome}
 use Rattle.std.specs.FinMap as map
 use Rattle.sv_dev.specs.Told.{grown, AppendsFront}
 use Rattle.sv_plain.specs.declared.entry.Entry.{Entry}
@@ -30,9 +30,9 @@ pub record IsUnused (fs : Fs) : Type 0 where
 
 -- ---- the journal
 
--- where the host tells what stands under that name, it is this text
+-- where the host tells what stands under names, this text stands under that one
 abbrev pub IsTextUnder : Option (List ℕ → Option (List ℕ)) → List ℕ → List ℕ → Type 0
-IsTextUnder texts name text = IfSome texts (λ under. IfSome (under name) (λ told. told ≡ text))
+IsTextUnder texts name text = IfSome texts (λ under. under name ≡ Some text)
 
 -- this holds of the text under that name
 abbrev pub OnText : Option (List ℕ → Option (List ℕ)) → List ℕ → (List ℕ → Type 0) → Type 0

@@ -1,5 +1,5 @@
 -- Two lists of an own stake put together; a list has few entries, since no line is held twice.
-use Rattle.std.proofs.Common.{◌≡◌, ◌<◌, ◌≤◌, ◌+◌, ◌*◌, ◌==◌, ◌&&◌, ◌||◌, ◌++◌, ℕ, zero, suc, Bool, true, false, cond, List, [], ◌∷◌, length, map, get_or, Option, Some, None, IsSome, is_some, refl, sym, ap, ◌∙◌, arith, eqb}
+use Rattle.std.proofs.Common.{◌≡◌, ◌<◌, ◌≤◌, ◌+◌, ◌*◌, ◌==◌, ◌&&◌, ◌||◌, ◌++◌, ℕ, zero, suc, Bool, true, false, cond, List, [], ◌∷◌, length, map, get_or, Option, Some, None, IsSome, IfSome, is_some, refl, sym, ap, ◌∙◌, subst, arith, eqb}
 use Rattle.std.proofs.Math.Path.{fun_ext}
 use Rattle.std.specs.List.{list_any, position_or_len, All, AllByRecursion, IsDistinct}
 use Rattle.std.specs.Option.{ForSome}
@@ -14,6 +14,7 @@ use Rattle.sv_form.specs.Geometry.{IsGeometry}
 use Rattle.sv_store.specs.Held.{Apart, line_of, nothing_lent}
 use Rattle.sv_store.specs.OwnBlock.{OwnBlock, Mask, mask_of, has, holders, IsSound, line_in, held_of, is_out, lent_of}
 use Rattle.sv_store.proofs.Holding.{eqb_same, none_from}
+use Rattle.sv_store.proofs.Lines.{length-line_of}
 use Rattle.sv_store.proofs.OwnLaws.{over, Both-over, held_of-cons, held_of-nil, line_in-at, lent_of-cons, lent_of-nil, count-cons, none-out, any-place}
 
 pub held_of-both : (e : OwnBlock) (es : List OwnBlock) (b l : ℕ) → held_of (e ∷ es) b l ≡ over (held_of es b l) (line_in e b l)
@@ -188,3 +189,25 @@ held-range g (e ∷ es) block lines b l is =
         let low : e.block < g.blocks = All-head (λ e. e.block < g.blocks) e es block in
         let long : length e.lines * 64 ≡ g.block_size = All-head (λ e. length e.lines * 64 ≡ g.block_size) e es lines in
         (omega (arith, both.0, low), omega (arith, both.1, long))
+
+over-each : (P : List ℕ → Type 0) (o p : Option (List ℕ)) → IfSome o P → IfSome p P → IfSome (over o p) P
+unfolding over
+over-each P None p mine theirs = theirs
+over-each P (Some x) p mine theirs = mine
+
+-- each line that is held has 64 bytes
+pub held-bytes : (g : Geometry) (es : List OwnBlock) → All (λ e. length e.lines * 64 ≡ g.block_size) es → All (λ e. length e.kept ≡ g.block_size) es → (b l : ℕ) → IfSome (held_of es b l) (λ line. length line ≡ 64)
+held-bytes g [] lines kept b l = subst (λ q. IfSome q (λ line. length line ≡ 64)) (sym (held_of-nil b l)) tt
+held-bytes g (e ∷ es) lines kept b l =
+    subst (λ q. IfSome q (λ line. length line ≡ 64)) (sym (held_of-both e es b l))
+    (over-each (λ line. length line ≡ 64) (held_of es b l) (line_in e b l)
+    (held-bytes g es (All-tail (λ e. length e.lines * 64 ≡ g.block_size) e es lines) (All-tail (λ e. length e.kept ≡ g.block_size) e es kept) b l)
+    (subst (λ q. IfSome q (λ line. length line ≡ 64)) (sym (line_in-at e b l)) (by (has b l (mask_of e)) refl)))
+  where
+    by : (t : Bool) → has b l (mask_of e) ≡ t → IfSome (cond t (Some (line_of e.kept l)) None) (λ line. length line ≡ 64)
+    by true is =
+        let both = has-both b l (mask_of e) is in
+        let long : length e.lines * 64 ≡ g.block_size = All-head (λ e. length e.lines * 64 ≡ g.block_size) e es lines in
+        let whole : length e.kept ≡ g.block_size = All-head (λ e. length e.kept ≡ g.block_size) e es kept in
+        omega (arith, length-line_of e.kept l, both.1, long, whole)
+    by false is = tt

@@ -1,5 +1,5 @@
 -- What a stake holds and what it has lent. A line is 64 bytes of a block; lines are counted from 0.
-use Rattle.std.specs.Prelude.{◌≡◌, ◌<◌, ◌+◌, ◌*◌, ◌==◌, ◌&&◌, ℕ, Bool, List, Option, Some, None, IsSome, is_some, option_map, if◌then◌else◌, slice_range, length, [], nat_le, nat_lt}
+use Rattle.std.specs.Prelude.{◌≡◌, ◌<◌, ◌+◌, ◌*◌, ◌==◌, ◌&&◌, ℕ, Bool, List, Option, Some, None, IsSome, IfSome, is_some, option_map, if◌then◌else◌, slice_range, length, [], nat_le, nat_lt}
 use Rattle.std.specs.List.{list_any, slice_index_or}
 use Rattle.sv_form.specs.declared.geometry.Geometry.{Geometry}
 use Rattle.sv_form.specs.declared.owners.LineRange.{LineRange}
@@ -12,9 +12,10 @@ Held = ℕ → ℕ → Option (List ℕ)
 abbrev pub Lent : Type 0
 Lent = ℕ → Option (List ℕ)
 
--- where a stake comes from: all parts of one first stake have one origin, and so one geometry
+-- where a stake comes from: all parts of one first stake have one origin, and so one geometry; the numbers name the rest of
+-- what they have in common, and no other first stake of that kind has them
 pub record Origin : Type 0 where
-  pub id : ℕ
+  pub id : List ℕ
   pub sizes : Geometry
 
 -- line l of a block with these bytes; it has no byte past the block's end
@@ -63,10 +64,11 @@ pub record SameLines (h k : Held) : Type 0 where
 pub record Apart (h k : Held) : Type 0 where
   pub at : (b l : ℕ) → IsSome (h b l) → k b l ≡ None
 
--- only lines of blocks in range are held, and only lines that a block has
+-- only lines of blocks in range are held, and only lines that a block has, each with 64 bytes
 pub record InRange (g : Geometry) (h : Held) : Type 0 where
   pub block : (b l : ℕ) → IsSome (h b l) → b < g.blocks
   pub line : (b l : ℕ) → IsSome (h b l) → l * 64 < g.block_size
+  pub bytes : (b l : ℕ) → IfSome (h b l) (λ line. length line ≡ 64)
 
 -- all lines of the block are held
 pub record HoldsBlock (o : Origin) (h : Held) (b : ℕ) : Type 0 where

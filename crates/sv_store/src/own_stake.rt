@@ -4,7 +4,7 @@ ghost use Rattle.std.specs.List.{list_any};
 ghost use Rattle.sv_dev.specs.Causes.{counted};
 ghost use Rattle.sv_form.specs.Geometry.{IsGeometry};
 ghost use Rattle.sv_store.specs.Causes.{HasFault};
-ghost use Rattle.sv_store.specs.Numbered.{Numbers, IsNumbered};
+ghost use Rattle.sv_store.specs.Numbered.{Numbers, IsNumbered, IsQuiet};
 ghost use Rattle.sv_store.specs.OwnBlock.{held_of, lent_of, IsSound};
 
 use crate::own_block::{
@@ -93,7 +93,8 @@ impl Numbered for OwnStake {
 
 /// A stake that owns its blocks, in memory, and fails the calls that it is told to fail.
 ///
-/// The calls of `bread`, `breada`, `fresh` and `bwrite` are numbered from 1, in each part anew.
+/// The calls of `bread`, `breada`, `fresh` and `bwrite` are numbered from 1, in each part anew. Its origin names the numbers
+/// of the calls that fail, so where there are none, no part of it has counted a fault.
 #[derive(Drop)]
 pub struct OwnStake {
     sizes: Geometry,
@@ -102,10 +103,11 @@ pub struct OwnStake {
     forced: bool,
     ghost sized: { IsGeometry sizes },
     ghost sound: { IsSound sizes blocks },
+    ghost quiet: { IsQuiet tally },
 }
 
 impl OwnStake {
-    ghost use Rattle.std.specs.Prelude.{◌≡◌, ℕ, length, map, false, OnErr, IfErr};
+    ghost use Rattle.std.specs.Prelude.{◌≡◌, ℕ, [], length, map, false, OnErr, IfErr};
     ghost use Rattle.std.specs.List.{All};
     ghost use Rattle.sv_store.specs.Held.{of_content, nothing_lent, HoldsBlock};
 
@@ -123,7 +125,7 @@ impl OwnStake {
         ensures lent { IfOk result (λ s. ⟦<OwnStake as Stake>⟧.lent s ≡ nothing_lent) }
         ensures faults { IfOk result (λ s. ⟦<OwnStake as Stake>⟧.faults s ≡ 0) }
         ensures forced { IfOk result (λ s. ⟦<OwnStake as Stake>⟧.forced s ≡ false) }
-        ensures origin { IfOk result (λ s. ⟦<OwnStake as Stake>⟧.origin s ≡ record { id = 0; sizes = sizes }) }
+        ensures origin { IfOk result (λ s. ⟦<OwnStake as Stake>⟧.origin s ≡ record { id = fails.items; sizes = sizes }) }
         ensures numbers { IfOk result (λ s. ⟦<OwnStake as Numbered>⟧.numbers s ≡ record { fails = fails.items; calls = 0; faults = 0 }) }
     {
         let blocks = whole_list(alloc, sizes, content)?;
@@ -147,6 +149,7 @@ impl OwnStake {
         ensures bytes { IfOk result (λ content. All (λ bytes. length bytes.items ≡ (⟦<OwnStake as Stake>⟧.origin self).sizes.block_size) content.items) }
         ensures held { IfOk result (λ content. of_content (⟦<OwnStake as Stake>⟧.origin self).sizes (map (λ bytes. bytes.items) content.items) ≡ ⟦<OwnStake as Stake>⟧.held self) }
         ensures back { IfErr result (λ refused. refused.0 ≡ self) }
+        ensures quiet { (⟦<OwnStake as Stake>⟧.origin self).id ≡ [] → ⟦<OwnStake as Stake>⟧.faults self ≡ 0 }
     {
         let Ok(mut content) = zero_content(alloc, self.sizes) else {
             return Err((self, AllocError));
@@ -175,7 +178,7 @@ impl Stake for OwnStake {
 
     ghost forced = { λ s. s.forced };
 
-    ghost origin = { λ s. record { id = 0; sizes = s.sizes } };
+    ghost origin = { λ s. record { id = s.tally.fails; sizes = s.sizes } };
 
     fn geometry(&self) -> Geometry {
         let _count = self.tally.count();
@@ -235,7 +238,7 @@ impl Stake for OwnStake {
         ensures held { ⟦<OwnStake as Stake>⟧.held self.new ≡ ⟦<OwnStake as Stake>⟧.held self.old }
         ensures forced { ⟦<OwnStake as Stake>⟧.forced self.new ≡ ⟦<OwnStake as Stake>⟧.forced self.old }
         ensures origin { ⟦<OwnStake as Stake>⟧.origin self.new ≡ ⟦<OwnStake as Stake>⟧.origin self.old }
-        ensures faults { ⟦<OwnStake as Stake>⟧.faults self.old ≤ ⟦<OwnStake as Stake>⟧.faults self.new }
+        ensures faults { ⟦<OwnStake as Stake>⟧.faults self.new ≡ ⟦<OwnStake as Stake>⟧.faults self.old }
         ensures numbers { ⟦<OwnStake as Numbered>⟧.numbers self.new ≡ ⟦<OwnStake as Numbered>⟧.numbers self.old }
     {
         let b = buf.block();
@@ -248,7 +251,7 @@ impl Stake for OwnStake {
         ensures lends { ⟦<OwnStake as Stake>⟧.lent self.new ≡ without buf.block (⟦<OwnStake as Stake>⟧.lent self.old) }
         ensures forced { ⟦<OwnStake as Stake>⟧.forced self.new ≡ ⟦<OwnStake as Stake>⟧.forced self.old }
         ensures origin { ⟦<OwnStake as Stake>⟧.origin self.new ≡ ⟦<OwnStake as Stake>⟧.origin self.old }
-        ensures faults { ⟦<OwnStake as Stake>⟧.faults self.old ≤ ⟦<OwnStake as Stake>⟧.faults self.new }
+        ensures faults { ⟦<OwnStake as Stake>⟧.faults self.new ≡ ⟦<OwnStake as Stake>⟧.faults self.old }
         ensures numbers { ⟦<OwnStake as Numbered>⟧.numbers self.new ≡ ⟦<OwnStake as Numbered>⟧.numbers self.old }
     {
         let b = buf.block();

@@ -29,10 +29,11 @@ pub trait Stake: Sized + Send {
     /// Whether this stake, or one that was merged into it, got a call of `bwrite` or `flush`.
     ghost forced: { Self → Bool };
 
-    /// What all parts of one first stake have in common.
+    /// What all parts of one first stake have in common, and no part of another: the sizes of the disk, and numbers that
+    /// name the rest of it, as the identity of a cache's turn and what the cache was opened with.
     ghost origin: { Self → Origin };
 
-    /// The sizes of the disk. Only lines of its blocks are held, and the count of faults is a `u64`.
+    /// The sizes of the disk. Only lines of its blocks are held, each with 64 bytes, and the count of faults is a `u64`.
     fn geometry(&self) -> Geometry
         ensures value { result ≡ (origin self.now).sizes }
         ensures sizes { IsGeometry result }
@@ -75,23 +76,24 @@ pub trait Stake: Sized + Send {
         ensures origin { origin self.new ≡ origin self.old }
         ensures cause { HasFault (faults self.old) (faults self.new) result };
 
-    /// Takes a block back unchanged (Bach, algorithm brelse).
+    /// Takes a block back unchanged (Bach, algorithm brelse). It runs no transfer, so no fault is counted.
     fn brelse<R: Wait>(&mut self, rt: &R, buf: Buf)
         requires { CanReturn (lent self.old) buf }
         ensures lends { lent self.new ≡ without buf.block (lent self.old) }
         ensures held { held self.new ≡ held self.old }
         ensures forced { forced self.new ≡ forced self.old }
         ensures origin { origin self.new ≡ origin self.old }
-        ensures faults { faults self.old ≤ faults self.new };
+        ensures faults { faults self.new ≡ faults self.old };
 
-    /// Takes a block back with new bytes, to be written later (Bach's delayed write).
+    /// Takes a block back with new bytes, to be written later (Bach's delayed write). It runs no transfer, so no fault is
+    /// counted.
     fn bdwrite<R: Wait>(&mut self, rt: &R, buf: Buf)
         requires { CanPut (held self.old) (lent self.old) buf }
         ensures held { held self.new ≡ put buf.block buf.bytes (held self.old) }
         ensures lends { lent self.new ≡ without buf.block (lent self.old) }
         ensures forced { forced self.new ≡ forced self.old }
         ensures origin { origin self.new ≡ origin self.old }
-        ensures faults { faults self.old ≤ faults self.new };
+        ensures faults { faults self.new ≡ faults self.old };
 
     /// Takes a block back with new bytes and writes it at once (Bach, algorithm bwrite). After a fault the held lines
     /// have the new bytes all the same, and the block stays to be written.

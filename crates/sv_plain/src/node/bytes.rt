@@ -13,8 +13,12 @@ impl Node {
         requires fits { at + length bytes.now ≤ 4294967295 }
         ensures { result ≡ same_bytes bytes.now (bytes_of block self.now at (length bytes.now)) }
     {
+        let mut near = (0, self.page(0));
         for k in 0..bytes.len() {
-            if self.byte(block, at + k as u32) != bytes[k] {
+            let place = at + k as u32;
+            near = self.page_near(near.0, near.1, place / block);
+            let byte = self.byte_near(near.0, near.1, block, place);
+            if byte != bytes[k] {
                 return false;
             }
         }

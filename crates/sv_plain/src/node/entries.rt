@@ -41,7 +41,7 @@ impl Node {
     }
 
     // Byte k of the node, where the page of this number was looked up before.
-    fn byte_near(&self, number: u32, page: Option<&[u8]>, block: u32, k: u32) -> u8
+    pub(crate) fn byte_near(&self, number: u32, page: Option<&[u8]>, block: u32, k: u32) -> u8
         requires some { 0 < block }
         requires page { option_copied page ≡ map.get self.now.pages number }
         ensures { result ≡ byte_of block self.now k }
@@ -68,7 +68,23 @@ impl Node {
         ENTRY * j.min(last)
     }
 
-    // The number of the page that entry j stands in, and the page, if it is another than the one that was looked up before.
+    // The page of this number, and the number, where another page was looked up before.
+    pub(crate) fn page_near<'a>(
+        &'a self,
+        number: u32,
+        page: Option<&'a [u8]>,
+        here: u32,
+    ) -> (u32, Option<&'a [u8]>)
+        requires page { option_copied page ≡ map.get self.now.pages number }
+        ensures page { option_copied result.1 ≡ map.get self.now.pages result.0 }
+    {
+        if here == number {
+            return (number, page);
+        }
+        (here, self.page(here))
+    }
+
+    // The page that entry j stands in, and its number, where another page was looked up before.
     fn page_of_entry<'a>(
         &'a self,
         number: u32,
@@ -81,11 +97,7 @@ impl Node {
         requires within { j < entry_count self.now }
         ensures page { option_copied result.1 ≡ map.get self.now.pages result.0 }
     {
-        let here = self.place_in_bytes(j) / block;
-        if here == number {
-            return (number, page);
-        }
-        (here, self.page(here))
+        self.page_near(number, page, self.place_in_bytes(j) / block)
     }
 
     // The number in entry j, where the page of this number was looked up before.

@@ -22,4 +22,4 @@ returns-clause-bytes c =
 pub returns-clause-held : goal.returns-clause-held
 returns-clause-held c =
     ap (λ q. of_content c.args.self.sizes (map (λ bytes. bytes.items) q)) (whole-again c.in-Ok.content.len c.copy_all.new.content c.in-Ok.content.items (omega (arith, c.copy_all.ensures.count, c.in-Ok.ensures.count, c.in-Ok.content.ok.0)) (omega (arith, c.in-Ok.content.ok.0)))
-    ∙ content-held (record { id = 0; sizes = c.args.self.sizes }) c.args.self.blocks c.copy_all.new.content c.args.self.sound c.copy_all.ensures.count c.requires.lines c.copy_all.ensures.lines
+    ∙ content-held (record { id = c.args.self.tally.fails; sizes = c.args.self.sizes }) c.args.self.blocks c.copy_all.new.content c.args.self.sound c.copy_all.ensures.count c.requires.lines c.copy_all.ensures.lines

@@ -10,6 +10,7 @@ pub invariant_of-result : goal.invariant_of-result
 invariant_of-result c = record {
   sized = c.args.self.now.sized;
   sound = subst (IsSound c.args.self.now.sizes) (sym c.in_ok-blocks.ensures.copies) (sound-copies c.args.self.now.sound c.args.lines.now);
+  quiet = λ _. ap (λ t. t.faults) c.in_ok-tally.ensures;
 }
 
 pub invariant_of-self-2 : goal.invariant_of-self-2
@@ -18,6 +19,7 @@ invariant_of-self-2 c = record {
   sound =
       subst (IsSound c.args.self.now.sizes) (sym (c.lose_all.ensures ∙ ap (left (masked (λ b l. not (in_ranges c.args.lines.now b l)))) c.copies_of.ensures.blocks))
       (sound-rest c.args.self.now.sound (λ b l. not (in_ranges c.args.lines.now b l)));
+  quiet = c.args.self.now.quiet;
 }
 
 pub returns-clause-ok : goal.returns-clause-ok
