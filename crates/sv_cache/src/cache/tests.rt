@@ -160,6 +160,29 @@ fn each_release(rt: HostRuntime) -> Result<(), Fail> {
 }
 
 #[test]
+fn three_blocks_on_one_hash_queue(rt: HostRuntime) -> Result<(), Fail> {
+    let mut core = four_buffers(rt.alloc())?;
+    // 7, 71 and 135 are 7 mod 64.
+    let zero = get(&rt, &mut core, 7, Scenario::Taken(0));
+    let one = get(&rt, &mut core, 71, Scenario::Taken(1));
+    let two = get(&rt, &mut core, 135, Scenario::Taken(2));
+    seek(&rt, &mut core, 71, Scenario::Busy(1));
+    seek(&rt, &mut core, 7, Scenario::Busy(0));
+    release(&mut core, one, Release::Valid);
+    release(&mut core, zero, Release::Valid);
+    release(&mut core, two, Release::Valid);
+
+    // The free list is 3, 1, 0, 2. Block 8 takes 3, block 9 takes 1 from between the two others on the queue.
+    let _three = get(&rt, &mut core, 8, Scenario::Taken(3));
+    let _one = get(&rt, &mut core, 9, Scenario::Taken(1));
+    let _two = get(&rt, &mut core, 135, Scenario::Hit(2));
+    let _zero = get(&rt, &mut core, 7, Scenario::Hit(0));
+    seek(&rt, &mut core, 71, Scenario::Empty);
+    let _disk = core.into_device();
+    Ok(())
+}
+
+#[test]
 fn a_mark_outlives_a_delayed_release(rt: HostRuntime) -> Result<(), Fail> {
     let mut core = four_buffers(rt.alloc())?;
     let zero = get(&rt, &mut core, 7, Scenario::Taken(0));
