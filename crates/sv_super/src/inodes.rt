@@ -1,7 +1,7 @@
 // The free inodes, without their lines.
 ghost use Rattle.std.specs.Prelude.{◌≡◌, ◌≤◌, ◌<◌, ◌-◌, ◌++◌, ◌∷◌, [], ℕ, true, false, IfOk, IfNone, IfSome, length, slice_get, slice_index, filter};
 ghost use Rattle.sv_super.specs.Count.{one_if, times};
-ghost use Rattle.sv_super.specs.Inodes.{filled, free_count, is_free_inode, past, smallest, with_free, without_last};
+ghost use Rattle.sv_super.specs.Inodes.{IsCache, filled, free_count, is_free_inode, past, smallest, with_free, without_last};
 
 use arrayvec::ArrayVec;
 use std::alloc::Global;
@@ -50,9 +50,11 @@ impl FreeInodes {
         })
     }
 
-    /// How many are free.
+    /// How many are free. Each cached number is free and stands there once, and each free number below the remembered one is
+    /// cached.
     pub fn left(&self) -> u32
-        ensures { result ≡ free_count self.now.used }
+        ensures left { result ≡ free_count self.now.used }
+        ensures cache { IsCache self.now result }
     {
         self.left
     }

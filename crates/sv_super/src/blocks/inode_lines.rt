@@ -5,7 +5,7 @@ ghost use Rattle.sv_form.specs.Geometry.{inode_count, inode_place};
 ghost use Rattle.sv_store.specs.Held.{Apart, Both, nothing_lent};
 ghost use Rattle.sv_super.specs.Calls.{TakesInode};
 ghost use Rattle.sv_super.specs.Core.{HoldsInodes, HoldsSuper, line_alone, line_less};
-ghost use Rattle.sv_super.specs.Inodes.{free_count, is_free_inode, with_free};
+ghost use Rattle.sv_super.specs.Inodes.{IsCache, free_count, is_free_inode, with_free};
 
 use crate::SuperCore;
 use std::alloc::Global;
@@ -13,10 +13,12 @@ use sv_form::{LineRange, Place};
 use sv_store::{NoMemory, Stake};
 
 impl<S: Stake> SuperCore<S> {
-    /// How many inodes are free. The map has a place for each, and the line of each free one is held and zero bytes.
+    /// How many inodes are free. The map has a place for each, and the line of each free one is held and zero bytes. Each cached
+    /// number is free and stands there once, and each free number below the remembered one is cached.
     pub fn inodes_left(&self) -> u32
         ensures left { result ≡ free_count self.now.inodes.used }
         ensures lines { HoldsInodes (S.origin self.now.stake) (S.held self.now.stake) self.now.inodes.used }
+        ensures cache { IsCache self.now.inodes result }
     {
         self.inodes.left()
     }
