@@ -1,9 +1,9 @@
 -- The order in which the blocks of a chain are taken, list by list: the numbers after the first of a list, then its link, and
 -- then the order of the next list.
-use Rattle.std.proofs.Common.{◌≡◌, ◌≢◌, ◌≤◌, ◌<◌, ◌+◌, ◌-◌, ◌==◌, ◌∷◌, [], ◌⊎◌, ◌∙◌, ℕ, zero, suc, List, inl, inr, ap, sym, refl, subst, length, take, slice_index, arith}
+use Rattle.std.proofs.Common.{◌≡◌, ◌≢◌, ◌<◌, ◌+◌, ◌-◌, ◌==◌, ◌∷◌, [], ◌⊎◌, ◌∙◌, ℕ, suc, List, inl, inr, ap, sym, refl, subst, length, take, slice_index, arith}
 use Rattle.sv_store.specs.Held.{Held}
 use Rattle.sv_super.specs.Count.{one_if, times}
-use Rattle.sv_super.specs.FreeList.{HasList, IsChain, IsNext, after, last, list_of}
+use Rattle.sv_super.specs.FreeList.{HasList, IsChain, IsNext, after, list_of}
 use Rattle.sv_super.proofs.Chains.{after-long, after-one, chain-next, chain-nil, chain-rest}
 use Rattle.sv_super.proofs.Counts.{times-cons, times-nil}
 

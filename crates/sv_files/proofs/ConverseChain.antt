@@ -1,23 +1,20 @@
 -- Conditions 10 and 11 from the chain of a flushed core.
-use Rattle.std.proofs.Common.{◌≡◌, ◌≢◌, ◌≤◌, ◌<◌, ◌+◌, ◌-◌, ◌*◌, ◌==◌, ◌&&◌, ◌||◌, ◌++◌, ◌∷◌, [], ◌⊎◌, ◌∙◌, ℕ, zero, suc, Bool, not, true, false, List, Option, Some, None, IsSome, inl, inr, ap, sym, refl, subst, cond, find, flat_map, length, map, take, nat_le, nat_lt, arith}
-use Rattle.std.specs.List.{list_any, range_with_len}
+use Rattle.std.proofs.Common.{◌≡◌, ◌≢◌, ◌≤◌, ◌<◌, ◌+◌, ◌-◌, ◌*◌, ◌==◌, ◌&&◌, ◌||◌, ◌++◌, ◌∷◌, [], ◌∙◌, ℕ, zero, suc, Bool, not, true, false, List, Option, Some, None, IsSome, inl, inr, ap, sym, refl, subst, flat_map, length, map, take, nat_lt, arith}
 use Rattle.std.proofs.lemmas.Bool.{cases_lt, eqb-true, ne_eqb}
 use Rattle.std.proofs.lemmas.List.{append-nil}
 use Rattle.std.proofs.lemmas.List.Folds.{list_any-append}
 use Rattle.sv_form.specs.declared.geometry.Geometry.{Geometry}
-use Rattle.sv_form.specs.declared.link_block.LinkBlock.{LinkBlock}
 use Rattle.sv_form.specs.Geometry.{IsDataBlock, IsGeometry}
 use Rattle.sv_form.specs.Image.{block_of, geometry_of}
 use Rattle.sv_form.specs.LinkBlock.{IsLinkBlock}
-use Rattle.sv_store.specs.Held.{Held, HoldsBlock, Origin, line_of, nothing_lent}
-use Rattle.sv_super.specs.Core as core
+use Rattle.sv_store.specs.Held.{Held, HoldsBlock, Origin, line_of}
 use Rattle.sv_super.specs.Core.{Head}
 use Rattle.sv_super.specs.Count.{one_if, times}
 use Rattle.sv_super.specs.FreeList.{HasList, IsChain, front}
 use Rattle.sv_super.proofs.Chains.{chain-spelled}
 use Rattle.sv_super.proofs.Counts.{few, times-cons, times-nil}
 use Rattle.sv_super.proofs.Fronts.{block_list, front-is}
-use Rattle.sv_check.specs.Chain.{Chained, number, list, chain, chain_flaw, chain_from, chained, chained_number, first_broken, free_list, link_of, list_in, lost_flaw, reads_list, walked}
+use Rattle.sv_check.specs.Chain.{Chained, number, list, chain, chain_flaw, chain_from, chained, first_broken, free_list, link_of, list_in, lost_flaw, reads_list, walked}
 use Rattle.sv_check.specs.ChainSteps.{numbers_of}
 use Rattle.sv_check.specs.Walk.{is_among, is_data_block, is_new, with_met}
 use Rattle.sv_check.proofs.BooleanTests.{at_most-test, below-test, or_true}

@@ -1,25 +1,23 @@
 -- Conditions 4 and 5 from the lines of the inodes.
-use Rattle.std.proofs.Common.{◌≡◌, ◌≢◌, ◌≤◌, ◌<◌, ◌+◌, ◌%◌, ◌==◌, ◌&&◌, ◌||◌, ◌⊎◌, ◌∙◌, ℕ, zero, suc, Bool, not, true, false, List, Option, Some, None, inl, inr, ap, sym, refl, subst, find, replicate, nat_lt, arith}
-use Rattle.std.specs.List.{range_with_len}
+use Rattle.std.proofs.Common.{◌≡◌, ◌≤◌, ◌<◌, ◌+◌, ◌%◌, ◌==◌, ◌&&◌, ◌||◌, ◌∙◌, ℕ, Bool, not, true, false, List, Option, Some, None, inl, inr, ap, sym, refl, subst, replicate, nat_lt, arith}
 use Rattle.std.specs.FinMap as map
 use Rattle.std.proofs.lemmas.Bool.{cases_eq, eq-eqb, ne_eqb}
 use Rattle.sv_form.specs.declared.geometry.Geometry.{Geometry}
 use Rattle.sv_form.specs.declared.inode.DiskInode.TheVariants.{Used}
 use Rattle.sv_form.specs.declared.kind.Kind.{Kind}
-use Rattle.sv_form.specs.declared.kind.Kind.TheVariants.{File, Dir}
 use Rattle.sv_form.specs.Geometry.{inode_count, inode_place}
-use Rattle.sv_form.specs.Image.{block_of, geometry_of, inode_of}
+use Rattle.sv_form.specs.Image.{inode_of}
 use Rattle.sv_form.specs.Node.{Node, is_dir}
 use Rattle.sv_form.specs.PagePath.{greatest_size}
-use Rattle.sv_store.specs.Held.{Held, Origin, line_of}
+use Rattle.sv_store.specs.Held.{Held, Origin}
 use Rattle.sv_plain.specs.Front.{size_of}
 use Rattle.sv_plain.specs.Fs as state
 use Rattle.sv_plain.specs.Fs.{Fs}
 use Rattle.sv_plain.specs.Whole.{IsDirectory}
 use Rattle.sv_check.specs.Blocks.{ShowsBody}
-use Rattle.sv_check.specs.InodeList.{inode_numbers, is_directory, is_free, is_misread, is_missized, kind_flaw, reads_inode, size_flaw}
+use Rattle.sv_check.specs.InodeList.{is_directory, is_free, is_misread, is_missized, kind_flaw, size_flaw}
 use Rattle.sv_check.proofs.BooleanTests.{below-test, not_below-test}
-use Rattle.sv_check.proofs.InodeReads.{no_directory, shows_inode, spelled_reads}
+use Rattle.sv_check.proofs.InodeReads.{shows_inode, spelled_reads}
 use Rattle.sv_files.specs.ConverseInodes.{HasInodesInOrder, HasNumbersOf, HoldsAllInodes, HoldsInode, NodesHaveInodes}
 use Rattle.sv_files.specs.ConverseLines.{HasLines, IsSizedAs}
 use Rattle.sv_files.specs.ConverseNames.{IsAtRest}

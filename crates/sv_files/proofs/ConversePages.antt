@@ -1,12 +1,12 @@
 -- Conditions 8 and 9 from the pages of the nodes.
-use Rattle.std.proofs.Common.{◌≡◌, ◌≢◌, ◌≤◌, ◌<◌, ◌+◌, ◌-◌, ◌*◌, ◌==◌, ◌&&◌, ◌||◌, ◌∙◌, ℕ, Bool, not, true, false, List, Some, None, inl, inr, ap, sym, refl, subst, if◌then◌else◌, drop, get_or, length, nat_le, nat_lt, slice_index, arith}
+use Rattle.std.proofs.Common.{◌≡◌, ◌<◌, ◌+◌, ◌-◌, ◌*◌, ◌==◌, ◌&&◌, ◌∙◌, ℕ, Bool, not, true, false, List, Some, None, inl, inr, ap, sym, refl, subst, if◌then◌else◌, drop, length, nat_le, nat_lt, arith}
 use Rattle.std.specs.FinMap as fmap
 use Rattle.std.proofs.lemmas.Bool.{cases_eq, eq-eqb, ne_eqb}
 use Rattle.std.proofs.lemmas.List.{get_or-drop}
 use Rattle.sv_form.specs.declared.geometry.Geometry.{Geometry}
 use Rattle.sv_form.specs.declared.inode.DiskInode.TheVariants.{Used}
 use Rattle.sv_form.specs.Geometry.{IsGeometry, inode_count}
-use Rattle.sv_form.specs.Image.{block_of, geometry_of, inode_of}
+use Rattle.sv_form.specs.Image.{block_of, inode_of}
 use Rattle.sv_form.specs.Node.{Node}
 use Rattle.sv_store.specs.Held.{Held, Origin}
 use Rattle.sv_plain.specs.Front.{size_of}
@@ -20,7 +20,7 @@ use Rattle.sv_files.specs.ConverseInodes.{HasNumbersOf, HoldsAllInodes}
 use Rattle.sv_files.specs.ConverseLines.{IsSizedAs}
 use Rattle.sv_files.specs.ConverseNames.{IsAtRest}
 use Rattle.sv_files.specs.ConversePages.{IsPagedWell, NodesArePagedWell}
-use Rattle.sv_files.proofs.ConverseWalk.{HasNode, addresses, node_at, same-inode}
+use Rattle.sv_files.proofs.ConverseWalk.{addresses, node_at, same-inode}
 use Rattle.sv_files.proofs.EachReached.{Each, each_map, none_passes}
 use Rattle.sv_files.proofs.HeldPages.{IsFrom, each_from, not-empty, page-in}
 use Rattle.sv_files.proofs.RangeTests.{none_found}

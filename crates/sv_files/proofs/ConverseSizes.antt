@@ -1,26 +1,25 @@
 -- Conditions 1 to 3 and 12 from the lines of a flushed core.
-use Rattle.std.proofs.Common.{◌≡◌, ◌≢◌, ◌≤◌, ◌<◌, ◌+◌, ◌-◌, ◌*◌, ◌==◌, ◌&&◌, ◌||◌, ◌∷◌, [], ◌∙◌, ℕ, zero, suc, Bool, not, true, false, List, Option, Some, None, inl, inr, ap, sym, refl, subst, cond, length, replicate, nat_le, nat_lt, arith}
-use Rattle.std.specs.List.{list_all, slice_index_or}
+use Rattle.std.proofs.Common.{◌≡◌, ◌≢◌, ◌≤◌, ◌<◌, ◌-◌, ◌*◌, ◌==◌, ◌&&◌, ◌||◌, ◌∷◌, [], ◌∙◌, ℕ, Bool, not, true, false, List, Some, None, inl, inr, ap, sym, refl, subst, cond, length, replicate, nat_le, nat_lt, arith}
+use Rattle.std.specs.List.{slice_index_or}
 use Rattle.std.proofs.lemmas.Bool.{cases_lt, false≢true, ne_eqb}
 use Rattle.std.proofs.lemmas.List.{get_or_past}
 use Rattle.sv_form.specs.declared.geometry.Geometry.{Geometry}
 use Rattle.sv_form.specs.declared.superblock.Super.{Super}
 use Rattle.sv_form.specs.Geometry.{IsGeometry, inode_count, inode_place}
-use Rattle.sv_form.specs.Image.{block_of, geometry_of, inode_of, superblock_of}
+use Rattle.sv_form.specs.Image.{geometry_of, inode_of, superblock_of}
 use Rattle.sv_form.specs.Superblock.{IsSuper, sizes_of}
 use Rattle.sv_form.proofs.Images.{geometry_of-spelled}
-use Rattle.sv_store.specs.Held.{Held, Origin, line_of}
+use Rattle.sv_store.specs.Held.{Held, Origin}
 use Rattle.sv_super.specs.Core.{Head}
 use Rattle.sv_super.specs.Count.{one_if, times}
 use Rattle.sv_super.specs.Inodes.{is_free_inode}
 use Rattle.sv_super.specs.Written.{super_of}
 use Rattle.sv_check.specs.InodeCache.{cache_flaw, first_uncacheable, is_cacheable}
 use Rattle.sv_check.specs.InodeList.{is_free}
-use Rattle.sv_check.specs.Sizes.{IsSized}
 use Rattle.sv_check.specs.Walk.{nothing_met, with_met}
 use Rattle.sv_check.proofs.BooleanTests.{and_left, and_right, at_most-test, below, not_true}
 use Rattle.sv_check.proofs.CacheSteps.{cached-read}
-use Rattle.sv_check.proofs.SizeFlaws.{has_magic, has_type, sized, spelled}
+use Rattle.sv_check.proofs.SizeFlaws.{has_magic, has_type, sized}
 use Rattle.sv_files.specs.ConverseLines.{AreFreeInodes, FlushedIsCached, FlushedIsSized, IsFlushed, IsSizedAs}
 use Rattle.sv_files.proofs.HeldBytes.{has-1024, same_line, super-is}
 

@@ -1,19 +1,16 @@
 -- All sixteen conditions from the lines of a file system that was closed.
-use Rattle.std.proofs.Common.{◌≡◌, ◌≢◌, ◌≤◌, ◌<◌, ◌+◌, ◌-◌, ◌==◌, ◌||◌, ◌∷◌, [], ◌⊎◌, ◌∙◌, ℕ, zero, suc, Bool, not, true, false, List, Option, Some, None, IsSome, is_some, inl, inr, ap, sym, refl, subst, map, slice_index, arith}
+use Rattle.std.proofs.Common.{◌≡◌, ◌≢◌, ◌<◌, ◌+◌, ◌==◌, ◌||◌, ◌∷◌, [], ◌⊎◌, ◌∙◌, ℕ, Bool, not, true, false, List, Option, IsSome, is_some, inl, inr, ap, sym, refl, map, slice_index, arith}
 use Rattle.std.specs.List.{list_any}
-use Rattle.std.specs.FinMap as fmap
 use Rattle.std.proofs.lemmas.Bool.{eq-eqb, false≢true, ne_eqb}
 use Rattle.sv_form.specs.declared.geometry.Geometry.{Geometry}
 use Rattle.sv_form.specs.declared.inode.DiskInode.TheVariants.{Used}
 use Rattle.sv_form.specs.Geometry.{IsDataBlock, IsGeometry, inode_count}
-use Rattle.sv_form.specs.Image.{geometry_of, inode_of}
-use Rattle.sv_form.specs.Node.{Node}
-use Rattle.sv_form.specs.PagePath.{block_numbers}
-use Rattle.sv_store.specs.Held.{Apart, Held, HoldsBlock, Origin}
+use Rattle.sv_form.specs.Image.{inode_of}
+use Rattle.sv_store.specs.Held.{Held, Origin}
 use Rattle.sv_super.specs.Core.{Head}
 use Rattle.sv_super.specs.Count.{one_if, times}
 use Rattle.sv_super.proofs.Counts.{times-cons}
-use Rattle.sv_bmap.specs.Tree.{block_at, down}
+use Rattle.sv_bmap.specs.Tree.{down}
 use Rattle.sv_plain.specs.Front.{address_of}
 use Rattle.sv_plain.specs.Fs.{Fs}
 use Rattle.sv_check.specs.Chain.{walked}
@@ -24,7 +21,7 @@ use Rattle.sv_check.proofs.Flaws.{fails_nowhere}
 use Rattle.sv_check.proofs.InodeReads.{shows_inode}
 use Rattle.sv_check.proofs.WalkMet.{Met}
 use Rattle.sv_files.specs.ConverseChain.{AreFreeBlocks, HasWholeChain}
-use Rattle.sv_files.specs.ConverseInodes.{HasInodesInOrder, HoldsAllInodes, IsWalkedOnce}
+use Rattle.sv_files.specs.ConverseInodes.{HasInodesInOrder, IsWalkedOnce}
 use Rattle.sv_files.specs.ConverseLines.{IsSizedAs}
 use Rattle.sv_files.specs.ConverseNames.{IsNamed, ShowsNodes}
 use Rattle.sv_files.specs.ConversePages.{IsPagedWell}
@@ -35,7 +32,7 @@ use Rattle.sv_files.proofs.ConverseNames.{nodes_named}
 use Rattle.sv_files.proofs.ConversePages.{nodes_are_paged_well}
 use Rattle.sv_files.proofs.ConverseSizes.{flushed_is_cached, flushed_is_sized}
 use Rattle.sv_files.proofs.ConverseTree.{nodes_are_tree}
-use Rattle.sv_files.proofs.ConverseWalk.{HasNode, addresses, holds-reached, met-of, node_at, nodes_are_walked_once, number, same-inode}
+use Rattle.sv_files.proofs.ConverseWalk.{addresses, holds-reached, met-of, node_at, nodes_are_walked_once, number, same-inode}
 use Rattle.sv_files.proofs.EachReached.{hole-down, met_under}
 use Rattle.sv_files.proofs.HeldInode.{below}
 use Rattle.sv_files.proofs.JoinedTimes.{one_in}

@@ -1,27 +1,22 @@
 -- The tree of an image that has the lines of the nodes is these nodes.
-use Rattle.std.proofs.Common.{◌≡◌, ◌≢◌, ◌∷◌, [], ◌≤◌, ◌<◌, ◌+◌, ◌*◌, ◌%◌, ◌==◌, ◌&&◌, ◌∙◌, ℕ, Bool, not, true, false, List, Option, Some, None, IsSome, inl, inr, ap, sym, refl, subst, if◌then◌else◌, find, length, map, nat_lt, option_map, slice_index, arith}
+use Rattle.std.proofs.Common.{◌≡◌, ◌∷◌, [], ◌<◌, ◌*◌, ◌%◌, ◌==◌, ◌&&◌, ◌∙◌, ℕ, Bool, not, true, false, List, Option, Some, None, ap, sym, refl, if◌then◌else◌, length, option_map, slice_index, arith}
 use Rattle.std.specs.Cmp.{nat_cmp_total}
 use Rattle.std.specs.List.{list_all, list_any}
-use Rattle.std.specs.Ordering.{nat_cmp}
 use Rattle.std.specs.FinMap as fmap
 use Rattle.std.specs.FinMap.{nat_cmp-IsAntisymmetric}
-use Rattle.std.proofs.lemmas.Bool.{cases_eq, cases_lt, eq-eqb, eqb-true, false≢true, ne_eqb}
+use Rattle.std.proofs.lemmas.Bool.{eq-eqb, eqb-true}
 use Rattle.sv_form.specs.declared.geometry.Geometry.{Geometry}
 use Rattle.sv_form.specs.declared.inode.DiskInode.TheVariants.{Used}
 use Rattle.sv_form.specs.declared.inode.InodeBody.{InodeBody}
 use Rattle.sv_form.specs.declared.kind.Kind.{Kind}
 use Rattle.sv_form.specs.declared.kind.Kind.TheVariants.{File, Dir}
 use Rattle.sv_form.specs.Geometry.{IsGeometry, inode_count}
-use Rattle.sv_form.specs.Image.{block_of, geometry_of, inode_of}
-use Rattle.sv_form.specs.Inode.{IsBody, kind_code}
+use Rattle.sv_form.specs.Image.{block_of, inode_of}
+use Rattle.sv_form.specs.Inode.{IsBody}
 use Rattle.sv_form.specs.Node.{Node, is_dir}
 use Rattle.sv_form.specs.Number.{number16}
-use Rattle.sv_form.specs.PagePath.{block_numbers, page_limit, page_of}
 use Rattle.sv_store.specs.Held.{Held, Origin}
-use Rattle.sv_bmap.specs.Tree.{block_at, down, page_block, places_of, slot_of}
-use Rattle.sv_bmap.proofs.PagePaths.{has_path}
-use Rattle.sv_inode.specs.StandsFor.{IsPageOf}
-use Rattle.sv_plain.specs.Front.{address_of, size_of}
+use Rattle.sv_plain.specs.Front.{address_of}
 use Rattle.sv_plain.specs.Fs.{Fs}
 use Rattle.sv_check.specs.Directories.{page_in}
 use Rattle.sv_check.specs.InodeList.{is_directory, is_free, links_of, used_inodes}
@@ -38,7 +33,7 @@ use Rattle.sv_files.specs.ConverseLines.{IsSizedAs}
 use Rattle.sv_files.specs.ConverseNames.{IsAtRest}
 use Rattle.sv_files.specs.ConversePages.{NodesAreTree}
 use Rattle.sv_files.proofs.ConversePages.{each-reached, long, size-here}
-use Rattle.sv_files.proofs.ConverseWalk.{HasNode, addresses, data-reached, node_at, same-inode}
+use Rattle.sv_files.proofs.ConverseWalk.{addresses, node_at, same-inode}
 use Rattle.sv_files.proofs.EachReached.{Each, each_map, found, none_found_in, none_passes}
 use Rattle.sv_files.proofs.HeldPages.{IsFrom, inside-from, page-in, there_from}
 

@@ -1,17 +1,15 @@
 -- Conditions 6 and 7 from the address trees of the inodes.
-use Rattle.std.proofs.Common.{◌≡◌, ◌≢◌, ◌≤◌, ◌<◌, ◌+◌, ◌==◌, ◌&&◌, ◌||◌, ◌++◌, ◌∷◌, [], ◌⊎◌, ◌∙◌, ℕ, zero, suc, Bool, not, true, false, List, Option, Some, None, IsSome, is_some, inl, inr, ap, sym, refl, subst, cond, if◌then◌else◌, filter, flat_map, map, replicate, slice_index, nat_lt, option_and_then, arith}
-use Rattle.std.specs.List.{range_with_len}
+use Rattle.std.proofs.Common.{◌≡◌, ◌≢◌, ◌≤◌, ◌<◌, ◌+◌, ◌==◌, ◌&&◌, ◌||◌, ◌∷◌, [], ◌∙◌, ℕ, Bool, not, true, false, List, Option, Some, None, is_some, inl, inr, ap, sym, refl, subst, cond, if◌then◌else◌, map, replicate, slice_index, nat_lt, option_and_then, arith}
 use Rattle.std.specs.FinMap as fmap
 use Rattle.std.proofs.lemmas.Bool.{cases_eq, false≢true, ne_eqb}
 use Rattle.sv_form.specs.declared.geometry.Geometry.{Geometry}
 use Rattle.sv_form.specs.declared.inode.DiskInode.TheVariants.{Used}
 use Rattle.sv_form.specs.Geometry.{IsDataBlock, IsGeometry, inode_count, inode_place}
-use Rattle.sv_form.specs.Image.{geometry_of, inode_of}
+use Rattle.sv_form.specs.Image.{inode_of}
 use Rattle.sv_form.specs.Node.{Node}
-use Rattle.sv_form.specs.PagePath.{block_numbers}
-use Rattle.sv_store.specs.Held.{Apart, Held, HoldsBlock, Origin}
+use Rattle.sv_store.specs.Held.{Held, HoldsBlock, Origin}
 use Rattle.sv_super.specs.Count.{one_if, times}
-use Rattle.sv_super.proofs.Counts.{times-cons, times-nil}
+use Rattle.sv_super.proofs.Counts.{times-cons}
 use Rattle.sv_plain.specs.Front.{address_of}
 use Rattle.sv_plain.specs.Fs.{Fs}
 use Rattle.sv_check.specs.InodeList.{is_free, used_inodes}
@@ -24,7 +22,7 @@ use Rattle.sv_files.specs.ConverseInodes.{HoldsAllInodes, HoldsInode, IsWalkedOn
 use Rattle.sv_files.specs.ConverseLines.{IsSizedAs}
 use Rattle.sv_files.proofs.ConverseInodes.{held-inode}
 use Rattle.sv_files.proofs.HeldInode.{IsInTree, held_in_tree, in_tree, once_in_tree}
-use Rattle.sv_files.proofs.JoinedTimes.{IsIn, few_in, met, one_in}
+use Rattle.sv_files.proofs.JoinedTimes.{few_in, met, one_in}
 
 -- ---- a walk that meets data blocks alone, and each once, meets no bad number
 

@@ -1,6 +1,6 @@
 -- The bytes of held lines are those of the image.
-use Rattle.std.proofs.Common.{◌≡◌, ◌≤◌, ◌<◌, ◌+◌, ◌-◌, ◌*◌, ◌/◌, ◌%◌, ◌∙◌, ℕ, List, [], Option, Some, None, IsSome, is_some, ap, sym, refl, get_or, take, drop, length, map, unwrap_or, slice_index, min, arith}
-use Rattle.std.specs.List.{range_with_len, slice_range}
+use Rattle.std.proofs.Common.{◌≡◌, ◌≤◌, ◌<◌, ◌+◌, ◌-◌, ◌*◌, ◌/◌, ◌%◌, ◌∙◌, ℕ, List, [], Option, Some, None, IsSome, is_some, ap, sym, refl, get_or, drop, length, unwrap_or, slice_index, arith}
+use Rattle.std.specs.List.{slice_range}
 use Rattle.std.proofs.lemmas.List.{ext_get_or, get_or-drop, get_or-take, length-drop, length-take}
 use Rattle.std.proofs.lemmas.List.FromFn.{get_or-map-range_with_len, length-map-range_with_len}
 use Rattle.sv_form.specs.declared.geometry.Geometry.{Geometry}

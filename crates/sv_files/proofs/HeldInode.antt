@@ -1,15 +1,13 @@
 -- What an inode of an image reaches stands at the spots of its held address tree, each block once.
-use Rattle.std.proofs.Common.{◌≡◌, ◌≢◌, ◌≤◌, ◌<◌, ◌+◌, ◌-◌, ◌==◌, ◌∙◌, ℕ, Bool, not, true, false, List, ap, sym, refl, subst, filter, flat_map, slice_index, arith}
-use Rattle.std.specs.List.{range_with_len}
-use Rattle.sv_form.specs.declared.geometry.Geometry.{Geometry}
+use Rattle.std.proofs.Common.{◌≡◌, ◌≢◌, ◌≤◌, ◌<◌, ◌==◌, ◌∙◌, ℕ, Bool, not, true, List, ap, sym, subst, slice_index, arith}
 use Rattle.sv_form.specs.PagePath.{block_numbers}
 use Rattle.sv_store.specs.Held.{Held, HoldsBlock, Origin}
 use Rattle.sv_bmap.specs.Tree.{IsSpot, IsTree, block_at, down}
 use Rattle.sv_plain.specs.Front.{address_of}
 use Rattle.sv_check.specs.Walk.{Reached, first_page, height_of, reached, reached_under}
 use Rattle.sv_files.specs.ConverseLines.{HasLines}
-use Rattle.sv_files.proofs.HeldTree.{IsAtEnd, IsHeldBelow, IsWay, at_end, once_under, some_test}
-use Rattle.sv_files.proofs.JoinedTimes.{IsIn, few_in, met, one_in}
+use Rattle.sv_files.proofs.HeldTree.{IsHeldBelow, IsWay, at_end, once_under, some_test}
+use Rattle.sv_files.proofs.JoinedTimes.{few_in, met, one_in}
 
 module _ (o : Origin) (image : List ℕ) (h : Held) (lines : HasLines o.sizes image h) (inode a : List ℕ) (tree : IsTree o h a) (same : (k : ℕ) → k < 13 → address_of inode k ≡ slice_index a k) where
   abbrev block : Reached → ℕ

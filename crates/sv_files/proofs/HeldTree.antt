@@ -1,22 +1,20 @@
 -- What an image reaches from a block, and from an inode, stands at the spots of the held address tree, each block once.
-use Rattle.std.proofs.Common.{◌≡◌, ◌≢◌, ◌≤◌, ◌<◌, ◌+◌, ◌-◌, ◌*◌, ◌/◌, ◌%◌, ◌^◌, ◌==◌, ◌++◌, ◌∷◌, [], ◌⊎◌, ◌∙◌, ℕ, zero, suc, Bool, not, true, false, List, Option, Some, None, IsSome, is_some, inl, inr, ap, sym, refl, subst, cond, if◌then◌else◌, map, filter, flat_map, length, get_or, slice_index, unwrap_or, arith}
+use Rattle.std.proofs.Common.{◌≡◌, ◌≢◌, ◌≤◌, ◌<◌, ◌+◌, ◌*◌, ◌/◌, ◌%◌, ◌^◌, ◌==◌, ◌∷◌, [], ◌∙◌, ℕ, zero, suc, Bool, not, true, false, List, Option, Some, None, IsSome, inl, inr, ap, sym, refl, subst, if◌then◌else◌, filter, flat_map, length, get_or, slice_index, unwrap_or, arith}
 use Rattle.std.specs.List.{range_with_len}
-use Rattle.std.proofs.lemmas.Bool.{cases_eq, cases_lt, eqb-true, ne_eqb}
+use Rattle.std.proofs.lemmas.Bool.{cases_lt, eqb-true, ne_eqb}
 use Rattle.sv_form.specs.declared.geometry.Geometry.{Geometry}
 use Rattle.sv_form.specs.Image.{block_of}
-use Rattle.sv_form.specs.Number.{number16, number32}
+use Rattle.sv_form.specs.Number.{number32}
 use Rattle.sv_form.specs.PagePath.{block_numbers}
 use Rattle.sv_store.specs.Held.{Held, HoldsBlock, Origin, line_of}
 use Rattle.sv_store.proofs.Lines.{get_or-line_of}
-use Rattle.sv_super.specs.Count.{one_if, times}
+use Rattle.sv_super.specs.Count.{one_if}
 use Rattle.sv_super.proofs.Counts.{times-cons, times-nil}
-use Rattle.sv_bmap.specs.Order.{HeldBelow}
 use Rattle.sv_bmap.specs.Tree as tree
 use Rattle.sv_bmap.specs.Tree.{IsSpot, IsTree, block_at, child, down}
-use Rattle.sv_plain.specs.Front.{address_of}
-use Rattle.sv_check.specs.Walk.{Reached, addressed, filled, first_page, height_of, number_in, reached, reached_under}
+use Rattle.sv_check.specs.Walk.{Reached, number_in, reached_under}
 use Rattle.sv_files.specs.ConverseLines.{HasLines}
-use Rattle.sv_files.proofs.JoinedTimes.{IsIn, few_in, met, one_in}
+use Rattle.sv_files.proofs.JoinedTimes.{few_in, met, one_in}
 
 pub some_test : (x : ℕ) → not (x == 0) ≡ true → x ≢ 0
 some_test x e = grind (arith, e)

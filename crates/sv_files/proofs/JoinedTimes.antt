@@ -1,7 +1,7 @@
 -- How often a block stands in joined lists, one for each number of a range that passes a test.
-use Rattle.std.proofs.Common.{◌≡◌, ◌≢◌, ◌≤◌, ◌<◌, ◌+◌, ◌++◌, ◌∷◌, [], ◌⊎◌, ◌∙◌, ℕ, zero, suc, Bool, true, false, List, inl, inr, ap, sym, refl, subst, cond, map, filter, flat_map, arith}
+use Rattle.std.proofs.Common.{◌≡◌, ◌≤◌, ◌<◌, ◌+◌, ◌++◌, ◌∷◌, ◌∙◌, ℕ, zero, suc, Bool, true, false, List, inl, inr, ap, refl, cond, map, filter, flat_map, arith}
 use Rattle.std.specs.List.{range_with_len}
-use Rattle.std.proofs.lemmas.Bool.{cases_eq, cases_lt}
+use Rattle.std.proofs.lemmas.Bool.{cases_lt}
 use Rattle.std.proofs.lemmas.List.{map-append}
 use Rattle.sv_super.specs.Count.{times}
 use Rattle.sv_super.proofs.Counts.{times-append, times-nil}

@@ -1,5 +1,5 @@
 -- The path of the page to which a whole way leads, from an address of the inode.
-use Rattle.std.proofs.Common.{◌≡◌, ◌≤◌, ◌<◌, ◌+◌, ◌-◌, ◌*◌, ◌^◌, ◌==◌, ◌∷◌, [], ◌∙◌, ℕ, zero, suc, Bool, true, false, List, inl, inr, ap, sym, refl, subst, if◌then◌else◌, length, slice_index, nat_le, arith}
+use Rattle.std.proofs.Common.{◌≡◌, ◌≤◌, ◌<◌, ◌+◌, ◌*◌, ◌^◌, ◌==◌, ◌∷◌, [], ◌∙◌, ℕ, Bool, List, inl, inr, ap, sym, refl, subst, if◌then◌else◌, length, slice_index, arith}
 use Rattle.std.proofs.Math.Nat.{mul-le-mul_right, pow-suc, pow-zero}
 use Rattle.std.proofs.lemmas.Bool.{cases_eq, cases_lt}
 use Rattle.sv_form.specs.declared.geometry.Geometry.{Geometry}
