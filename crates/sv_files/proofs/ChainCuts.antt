@@ -1,6 +1,7 @@
 -- The order in which the blocks of a chain are taken, list by list: the numbers after the first of a list, then its link, and
 -- then the order of the next list.
-use Rattle.std.proofs.Common.{◌≡◌, ◌≢◌, ◌<◌, ◌+◌, ◌-◌, ◌==◌, ◌∷◌, [], ◌⊎◌, ◌∙◌, ℕ, suc, List, inl, inr, ap, sym, refl, subst, length, take, slice_index, arith}
+use Rattle.std.proofs.Common.{◌≡◌, ◌≢◌, ◌<◌, ◌+◌, ◌-◌, ◌==◌, ◌∷◌, [], ◌⊎◌, ◌∙◌, ℕ, suc, List, inl, inr, ap, sym, refl, subst, length, take}
+use Rattle.std.proofs.Common.{slice_index, arith}
 use Rattle.sv_store.specs.Held.{Held}
 use Rattle.sv_super.specs.Count.{one_if, times}
 use Rattle.sv_super.specs.FreeList.{HasList, IsChain, IsNext, after, list_of}
@@ -8,7 +9,8 @@ use Rattle.sv_super.proofs.Chains.{after-long, after-one, chain-next, chain-nil,
 use Rattle.sv_super.proofs.Counts.{times-cons, times-nil}
 
 -- the last of a list counted apart
-pub times-last : (c y : ℕ) (ys : List ℕ) → times c (y ∷ ys) ≡ times c (take (length ys) (y ∷ ys)) + one_if (slice_index (y ∷ ys) (length ys) == c)
+pub times-last : (c y : ℕ) (ys : List ℕ)
+    → times c (y ∷ ys) ≡ times c (take (length ys) (y ∷ ys)) + one_if (slice_index (y ∷ ys) (length ys) == c)
 times-last c y [] = omega (arith, times-cons c y [], times-nil c)
 times-last c y (z ∷ zs) =
     let rest = times-last c z zs in
@@ -44,8 +46,12 @@ module _ (h : Held) where
         list = list_of (h b);
         rest = rest;
         spelled = subst (λ (y : ℕ). HasList (h y) (list_of (h b))) (sym is) (next.link refl);
-        chain = subst (λ (l : List ℕ). IsChain h l rest) (after-one h (x ∷ []) refl ∙ ap (λ (y : ℕ). list_of (h y)) is) (chain-rest h (x ∷ []) b rest c);
-        same = λ c. (let same_test : one_if (x == c) ≡ one_if (b == c) = ap (λ (y : ℕ). one_if (y == c)) is in omega (arith, same_test, times-cons c b rest, times-nil c));
+        chain =
+            subst (λ (l : List ℕ). IsChain h l rest) (after-one h (x ∷ []) refl ∙ ap (λ (y : ℕ). list_of (h y)) is)
+            (chain-rest h (x ∷ []) b rest c);
+        same =
+            λ c. (let same_test : one_if (x == c) ≡ one_if (b == c) = ap (λ (y : ℕ). one_if (y == c)) is in
+            omega (arith, same_test, times-cons c b rest, times-nil c));
         fewer = omega arith;
       }
 

@@ -1,5 +1,6 @@
 -- Conditions 10 and 11 from the chain of a flushed core.
-use Rattle.std.proofs.Common.{◌≡◌, ◌≢◌, ◌≤◌, ◌<◌, ◌+◌, ◌-◌, ◌*◌, ◌==◌, ◌&&◌, ◌||◌, ◌++◌, ◌∷◌, [], ◌∙◌, ℕ, zero, suc, Bool, not, true, false, List, Option, Some, None, IsSome, inl, inr, ap, sym, refl, subst, flat_map, length, map, take, nat_lt, arith}
+use Rattle.std.proofs.Common.{◌≡◌, ◌≢◌, ◌≤◌, ◌<◌, ◌+◌, ◌-◌, ◌*◌, ◌==◌, ◌&&◌, ◌||◌, ◌++◌, ◌∷◌, [], ◌∙◌, ℕ, zero, suc, Bool, not, true, false}
+use Rattle.std.proofs.Common.{List, Option, Some, None, IsSome, inl, inr, ap, sym, refl, subst, flat_map, length, map, take, nat_lt, arith}
 use Rattle.std.proofs.lemmas.Bool.{cases_lt, eqb-true, ne_eqb}
 use Rattle.std.proofs.lemmas.List.{append-nil}
 use Rattle.std.proofs.lemmas.List.Folds.{list_any-append}
@@ -14,7 +15,8 @@ use Rattle.sv_super.specs.FreeList.{HasList, IsChain, front}
 use Rattle.sv_super.proofs.Chains.{chain-spelled}
 use Rattle.sv_super.proofs.Counts.{few, times-cons, times-nil}
 use Rattle.sv_super.proofs.Fronts.{block_list, front-is}
-use Rattle.sv_check.specs.Chain.{Chained, number, list, chain, chain_flaw, chain_from, chained, first_broken, free_list, link_of, list_in, lost_flaw, reads_list, walked}
+use Rattle.sv_check.specs.Chain.{Chained, number, list, chain, chain_flaw, chain_from, chained, first_broken, free_list, link_of, list_in}
+use Rattle.sv_check.specs.Chain.{lost_flaw, reads_list, walked}
 use Rattle.sv_check.specs.ChainSteps.{numbers_of}
 use Rattle.sv_check.specs.Walk.{is_among, is_data_block, is_new, with_met}
 use Rattle.sv_check.proofs.BooleanTests.{at_most-test, below-test, or_true}
@@ -31,7 +33,8 @@ use Rattle.sv_files.proofs.RangeTests.{found_none}
 
 -- ---- lists
 
-among_by : (t : Bool) (xs : List ℕ) (b : ℕ) → (0 < times b xs → is_among xs b ≡ true) → 0 < one_if t + times b xs → (t || is_among xs b) ≡ true
+among_by : (t : Bool) (xs : List ℕ) (b : ℕ) → (0 < times b xs → is_among xs b ≡ true) → 0 < one_if t + times b xs
+    → (t || is_among xs b) ≡ true
 among_by true xs b later some = refl
 among_by false xs b later some = later (omega (arith, some))
 
@@ -69,7 +72,8 @@ module _ (g : Geometry) (image : List ℕ) where
   after_all before [] = before
   after_all before (x ∷ xs) = after_all (with_met before x) xs
 
-  numbers_on : (xs : List ℕ) (before : ℕ → Bool) (rest : List Chained) → ((b : ℕ) → 0 < times b xs → (is_data_block g b ≡ true) × (before b ≡ false)) → ((b : ℕ) → times b xs ≤ 1)
+  numbers_on : (xs : List ℕ) (before : ℕ → Bool) (rest : List Chained)
+      → ((b : ℕ) → 0 < times b xs → (is_data_block g b ≡ true) × (before b ≡ false)) → ((b : ℕ) → times b xs ≤ 1)
       → first_broken g image before (map number xs ++ rest) ≡ first_broken g image (after_all before xs) rest
   numbers_on [] before rest new once = refl
   numbers_on (x ∷ xs) before rest new once =
@@ -86,11 +90,13 @@ module _ (g : Geometry) (image : List ℕ) where
   still_new : (xs : List ℕ) (before : ℕ → Bool) (b : ℕ) → before b ≡ false → times b xs ≡ 0 → after_all before xs b ≡ false
   still_new [] before b new none = new
   still_new (x ∷ xs) before b new none =
-      still_new xs (with_met before x) b (ap (λ (t : Bool). t || before b) (ne_eqb b x (other_number b x xs none)) ∙ new) (omega (arith, none, times-cons b x xs))
+      still_new xs (with_met before x) b (ap (λ (t : Bool). t || before b) (ne_eqb b x (other_number b x xs none)) ∙ new)
+      (omega (arith, none, times-cons b x xs))
 
 -- ---- the chain of an image that has the held lines
 
-module _ (o : Origin) (image : List ℕ) (h : Held) (sizes : IsGeometry o.sizes) (long : length image ≡ o.sizes.blocks * o.sizes.block_size) (lines : HasLines o.sizes image h) where
+module _ (o : Origin) (image : List ℕ) (h : Held) (sizes : IsGeometry o.sizes) (long : length image ≡ o.sizes.blocks * o.sizes.block_size)
+    (lines : HasLines o.sizes image h) where
   abbrev g : Geometry
   g = o.sizes
 
@@ -129,16 +135,23 @@ module _ (o : Origin) (image : List ℕ) (h : Held) (sizes : IsGeometry o.sizes)
 
   at_end : (n x : ℕ) (ys : List ℕ) → x ≡ 0 → chain_from g image (suc n) (x ∷ ys) ≡ map number ys ++ []
   unfolding chain_from
-  at_end n x ys none = ap (λ (l : List ℕ). map number (l ++ ys) ++ flat_map (λ b. list b ∷ chain_from g image n (list_in (block_of g image b))) l) (link-none (x ∷ ys) none)
+  at_end n x ys none =
+      ap (λ (l : List ℕ). map number (l ++ ys) ++ flat_map (λ b. list b ∷ chain_from g image n (list_in (block_of g image b))) l)
+      (link-none (x ∷ ys) none)
 
-  at_link : (n x : ℕ) (ys : List ℕ) → x ≢ 0 → chain_from g image (suc n) (x ∷ ys) ≡ map number (x ∷ ys) ++ (list x ∷ (chain_from g image n (list_in (block_of g image x)) ++ []))
+  at_link : (n x : ℕ) (ys : List ℕ) → x ≢ 0
+      → chain_from g image (suc n) (x ∷ ys) ≡ map number (x ∷ ys) ++ (list x ∷ (chain_from g image n (list_in (block_of g image x)) ++ []))
   unfolding chain_from
-  at_link n x ys some = ap (λ (l : List ℕ). map number (l ++ ys) ++ flat_map (λ b. list b ∷ chain_from g image n (list_in (block_of g image b))) l) (link-some (x ∷ ys) some)
+  at_link n x ys some =
+      ap (λ (l : List ℕ). map number (l ++ ys) ++ flat_map (λ b. list b ∷ chain_from g image n (list_in (block_of g image b))) l)
+      (link-some (x ∷ ys) some)
 
-  at_next : (n x : ℕ) (ys next : List ℕ) → x ≢ 0 → list_in (block_of g image x) ≡ next → chain_from g image (suc n) (x ∷ ys) ≡ map number (x ∷ ys) ++ (list x ∷ chain_from g image n next)
+  at_next : (n x : ℕ) (ys next : List ℕ) → x ≢ 0 → list_in (block_of g image x) ≡ next
+      → chain_from g image (suc n) (x ∷ ys) ≡ map number (x ∷ ys) ++ (list x ∷ chain_from g image n next)
   at_next n x ys next some is =
       at_link n x ys some
-      ∙ ap (λ (l : List Chained). map number (x ∷ ys) ++ (list x ∷ l)) (append-nil (chain_from g image n (list_in (block_of g image x))) ∙ ap (chain_from g image n) is)
+      ∙ ap (λ (l : List Chained). map number (x ∷ ys) ++ (list x ∷ l))
+      (append-nil (chain_from g image n (list_in (block_of g image x))) ∙ ap (chain_from g image n) is)
 
   -- the first number and the others of a list that has one
   first_of : (numbers order : List ℕ) → IsChain h numbers order → 1 ≤ length numbers
@@ -148,7 +161,8 @@ module _ (o : Origin) (image : List ℕ) (h : Held) (sizes : IsGeometry o.sizes)
 
   module _ (n : ℕ) (before : ℕ → Bool) (x : ℕ) (ys order : List ℕ)
       (new : (b : ℕ) → 0 < times b order → IsFreeBlock b × (before b ≡ false)) (once : (b : ℕ) → times b order ≤ 1) where
-    met : (xs : List ℕ) → ((b : ℕ) → times b xs ≤ times b order) → (rest : List Chained) → first_broken g image before (map number xs ++ rest) ≡ first_broken g image (after_all g image before xs) rest
+    met : (xs : List ℕ) → ((b : ℕ) → times b xs ≤ times b order) → (rest : List Chained)
+        → first_broken g image before (map number xs ++ rest) ≡ first_broken g image (after_all g image before xs) rest
     met xs less rest =
         numbers_on g image xs before rest
         (λ b some. let is = new b (let few = less b in omega (arith, few, some)) in (data-test b is.0.is_data, is.1))
@@ -188,13 +202,15 @@ module _ (o : Origin) (image : List ℕ) (h : Held) (sizes : IsGeometry o.sizes)
       rest-once : (b : ℕ) → times b l.rest ≤ 1
       rest-once b = let same = l.same b in let one = once b in omega (arith, same, one)
 
-      goes_on : first_broken g image (after_all g image before (x ∷ ys)) (chain_from g image n l.list) ≡ None → first_broken g image before (chain_from g image (suc n) (x ∷ ys)) ≡ None
+      goes_on : first_broken g image (after_all g image before (x ∷ ys)) (chain_from g image n l.list) ≡ None
+          → first_broken g image before (chain_from g image (suc n) (x ∷ ys)) ≡ None
       goes_on rest =
           ap (first_broken g image before) (at_next n x ys l.list l.some link-next)
           ∙ met (x ∷ ys) list-less (list x ∷ chain_from g image n l.list)
           ∙ reads_on g image (after_all g image before (x ∷ ys)) x (chain_from g image n l.list) reads-on ∙ rest
 
-  none-bad : (n : ℕ) (before : ℕ → Bool) (numbers order : List ℕ) → length order < n → IsChain h numbers order → ((b : ℕ) → 0 < times b order → IsFreeBlock b × (before b ≡ false)) → ((b : ℕ) → times b order ≤ 1)
+  none-bad : (n : ℕ) (before : ℕ → Bool) (numbers order : List ℕ) → length order < n → IsChain h numbers order
+      → ((b : ℕ) → 0 < times b order → IsFreeBlock b × (before b ≡ false)) → ((b : ℕ) → times b order ≤ 1)
       → first_broken g image before (chain_from g image n numbers) ≡ None
   none-bad zero before numbers order more c new once = absurd (omega (arith, more))
   none-bad (suc n) before [] order more c new once = absurd (let some = first_of [] order c in omega (arith, some))
@@ -203,7 +219,8 @@ module _ (o : Origin) (image : List ℕ) (h : Held) (sizes : IsGeometry o.sizes)
         | inl e ↦ ends_well n before x ys order new once e
         | inr l ↦
             goes_on n before x ys order new once l
-            (none-bad n (after_all g image before (x ∷ ys)) l.list l.rest (let less = l.fewer in omega (arith, less, more)) l.chain (rest-new n before x ys order new once l) (rest-once n before x ys order new once l))
+            (none-bad n (after_all g image before (x ∷ ys)) l.list l.rest (let less = l.fewer in omega (arith, less, more)) l.chain
+            (rest-new n before x ys order new once l) (rest-once n before x ys order new once l))
       ]
 
   -- ---- each block of the order is met
@@ -212,20 +229,25 @@ module _ (o : Origin) (image : List ℕ) (h : Held) (sizes : IsGeometry o.sizes)
     there_end : IsEnd h x ys order → is_among (numbers_of (chain_from g image (suc n) (x ∷ ys))) b ≡ true
     there_end e =
         let same = e.same b in
-        ap (λ (l : List Chained). is_among (numbers_of l) b) (at_end n x ys e.none ∙ append-nil (map number ys)) ∙ ap (λ (l : List ℕ). is_among l b) (numbers_of-map ys)
+        ap (λ (l : List Chained). is_among (numbers_of l) b) (at_end n x ys e.none ∙ append-nil (map number ys))
+        ∙ ap (λ (l : List ℕ). is_among l b) (numbers_of-map ys)
         ∙ among_times ys b (omega (arith, same, some))
 
     there_by : (next rest : List ℕ) → x ≢ 0 → list_in (block_of g image x) ≡ next → times b order ≡ times b (x ∷ ys) + times b rest
-        → (0 < times b rest → is_among (numbers_of (chain_from g image n next)) b ≡ true) → is_among (numbers_of (chain_from g image (suc n) (x ∷ ys))) b ≡ true
+        → (0 < times b rest → is_among (numbers_of (chain_from g image n next)) b ≡ true)
+        → is_among (numbers_of (chain_from g image (suc n) (x ∷ ys))) b ≡ true
     there_by next rest named is same later =
         ap (λ (l : List Chained). is_among (numbers_of l) b) (at_next n x ys next named is)
-        ∙ ap (λ (l : List ℕ). is_among l b) (numbers-append (map number (x ∷ ys)) (list x ∷ chain_from g image n next) ∙ ap (λ (l : List ℕ). l ++ numbers_of (chain_from g image n next)) (numbers_of-map (x ∷ ys)))
+        ∙ ap (λ (l : List ℕ). is_among l b)
+        (numbers-append (map number (x ∷ ys)) (list x ∷ chain_from g image n next)
+        ∙ ap (λ (l : List ℕ). l ++ numbers_of (chain_from g image n next)) (numbers_of-map (x ∷ ys)))
         ∙ (elim (cases_lt 0 (times b (x ∷ ys))) [
           | inl here ↦ among_front (x ∷ ys) (numbers_of (chain_from g image n next)) b (among_times (x ∷ ys) b here)
           | inr none ↦ among_back (x ∷ ys) (numbers_of (chain_from g image n next)) b (later (omega (arith, same, some, none)))
         ])
 
-  all-met : (n : ℕ) (numbers order : List ℕ) → length order < n → IsChain h numbers order → ((b : ℕ) → 0 < times b order → IsFreeBlock b) → (b : ℕ) → 0 < times b order
+  all-met : (n : ℕ) (numbers order : List ℕ) → length order < n → IsChain h numbers order → ((b : ℕ) → 0 < times b order → IsFreeBlock b)
+      → (b : ℕ) → 0 < times b order
       → is_among (numbers_of (chain_from g image n numbers)) b ≡ true
   all-met zero numbers order more c free b some = absurd (omega (arith, more))
   all-met (suc n) [] order more c free b some = absurd (let one = first_of [] order c in omega (arith, one))
@@ -237,14 +259,16 @@ module _ (o : Origin) (image : List ℕ) (h : Held) (sizes : IsGeometry o.sizes)
             let at = l.same x in
             let is = free x (omega (arith, itself, at)) in
             let same = l.same b in
-            there_by n x ys order b some l.list l.rest l.some (next-is x is.is_data.most is.whole l.list l.spelled) (omega (arith, same, times-cons b x ys))
+            there_by n x ys order b some l.list l.rest l.some (next-is x is.is_data.most is.whole l.list l.spelled)
+            (omega (arith, same, times-cons b x ys))
             (λ later. all-met n l.list l.rest (let less = l.fewer in omega (arith, less, more)) l.chain
             (λ d left. free d (let all = l.same d in omega (arith, all, left))) b later)
       ]
 
 -- ---- the conditions
 
-module _ (image : List ℕ) (o : Origin) (h : Held) (head : Head) (order cached : List ℕ) (f : IsFlushed o image h head order cached) (are : AreFreeBlocks o image h order) where
+module _ (image : List ℕ) (o : Origin) (h : Held) (head : Head) (order cached : List ℕ) (f : IsFlushed o image h head order cached)
+    (are : AreFreeBlocks o image h order) where
   same-list : free_list image ≡ f.written.list
   same-list = free_list-read image _ (spelled-here image o h head order cached f)
 
@@ -255,7 +279,8 @@ module _ (image : List ℕ) (o : Origin) (h : Held) (head : Head) (order cached 
   no_zero : times 0 order ≡ 0
   no_zero =
       elim (cases_lt 0 (times 0 order)) [
-        | inl there ↦ (let is = (are.sound.in_data 0 there).least in let least = f.has.sizes.least_first in absurd (omega (arith, is, least)))
+        | inl there ↦
+            (let is = (are.sound.in_data 0 there).least in let least = f.has.sizes.least_first in absurd (omega (arith, is, least)))
         | inr none ↦ omega (arith, none)
       ]
 
@@ -291,22 +316,29 @@ module _ (image : List ℕ) (o : Origin) (h : Held) (head : Head) (order cached 
   chain-none : chain_flaw o.sizes image ≡ None
   unfolding chain_flaw chain
   chain-none =
-      ap (λ (l : List ℕ). first_broken o.sizes image (is_among (walked o.sizes image)) (chain_from o.sizes image o.sizes.blocks l)) same-list
-      ∙ none-bad o image h f.has.sizes f.has.length f.lines o.sizes.blocks (is_among (walked o.sizes image)) f.written.list order few-chained f.written.chain (λ b some. (free b some, are.apart b some)) are.sound.once
+      ap (λ (l : List ℕ). first_broken o.sizes image (is_among (walked o.sizes image)) (chain_from o.sizes image o.sizes.blocks l))
+      same-list
+      ∙ none-bad o image h f.has.sizes f.has.length f.lines o.sizes.blocks
+      (is_among (walked o.sizes image)) f.written.list order few-chained f.written.chain
+      (λ b some. (free b some, are.apart b some)) are.sound.once
 
-  met-or-free : (b : ℕ) (t : Bool) → is_among (walked o.sizes image) b ≡ t → o.sizes.first_data ≤ b → b < o.sizes.blocks → is_among (walked o.sizes image ++ chained o.sizes image) b ≡ true
+  met-or-free : (b : ℕ) (t : Bool) → is_among (walked o.sizes image) b ≡ t → o.sizes.first_data ≤ b → b < o.sizes.blocks
+      → is_among (walked o.sizes image ++ chained o.sizes image) b ≡ true
   unfolding chain
   met-or-free b true is low high = among_front (walked o.sizes image) (chained o.sizes image) b is
   met-or-free b false is low high =
       among_back (walked o.sizes image) (chained o.sizes image) b
       (ap (λ (l : List ℕ). is_among (numbers_of (chain_from o.sizes image o.sizes.blocks l)) b) same-list
-      ∙ all-met o image h f.has.sizes f.has.length f.lines o.sizes.blocks f.written.list order few-chained f.written.chain free b (are.all b (record { least = low; most = high }) is))
+      ∙ all-met o image h f.has.sizes f.has.length f.lines o.sizes.blocks f.written.list order few-chained f.written.chain free b
+      (are.all b (record { least = low; most = high }) is))
 
   lost-none : lost_flaw o.sizes image ≡ None
   unfolding lost_flaw
   lost-none =
-      found_none (λ b. not (is_among (walked o.sizes image ++ chained o.sizes image) b)) (o.sizes.blocks - o.sizes.first_data) o.sizes.first_data
-      (λ b low high. ap not (met-or-free b (is_among (walked o.sizes image) b) refl low (let some = f.has.sizes.some_data in omega (arith, high, some))))
+      found_none (λ b. not (is_among (walked o.sizes image ++ chained o.sizes image) b))
+      (o.sizes.blocks - o.sizes.first_data) o.sizes.first_data
+      (λ b low high. ap not (met-or-free b (is_among (walked o.sizes image) b) refl low
+      (let some = f.has.sizes.some_data in omega (arith, high, some))))
 
   pub flushed_chained : HasWholeChain image
   flushed_chained =

@@ -1,5 +1,6 @@
 -- Conditions 13 and 15 from the nodes: the root, and the dots of each directory.
-use Rattle.std.proofs.Common.{◌≡◌, ◌≢◌, ◌≤◌, ◌<◌, ◌+◌, ◌-◌, ◌==◌, ◌&&◌, ◌||◌, ◌∷◌, [], ◌∙◌, ℕ, zero, suc, Bool, not, true, false, List, Option, Some, None, inl, inr, ap, sym, refl, cond, if◌then◌else◌, map, length, nat_le, option_map, arith}
+use Rattle.std.proofs.Common.{◌≡◌, ◌≢◌, ◌≤◌, ◌<◌, ◌+◌, ◌-◌, ◌==◌, ◌&&◌, ◌||◌, ◌∷◌, [], ◌∙◌, ℕ, zero, suc, Bool, not, true, false, List}
+use Rattle.std.proofs.Common.{Option, Some, None, inl, inr, ap, sym, refl, cond, if◌then◌else◌, map, length, nat_le, option_map, arith}
 use Rattle.std.specs.List.{list_all, list_any, range_with_len}
 use Rattle.std.specs.Ordering.{nat_cmp}
 use Rattle.std.specs.FinMap as fmap
@@ -14,7 +15,8 @@ use Rattle.sv_plain.specs.Fs.{Fs}
 use Rattle.sv_plain.specs.Names.{same_bytes, some_and}
 use Rattle.sv_plain.specs.Totals.{at_or_0}
 use Rattle.sv_plain.specs.Whole.{IsDirectory, IsPlaced, ascend, parent_of}
-use Rattle.sv_check.specs.Directories.{above, above_in, are_dots, directories, dot, dots, dots_flaw, entries, has_dot, has_dots_once, holders_of, is_placed, name_in, named_by, namings, namings_of, rises_to_root, root_flaw}
+use Rattle.sv_check.specs.Directories.{above, above_in, are_dots, directories, dot, dots, dots_flaw, entries, has_dot, has_dots_once}
+use Rattle.sv_check.specs.Directories.{holders_of, is_placed, name_in, named_by, namings, namings_of, rises_to_root, root_flaw}
 use Rattle.sv_check.specs.InodeList.{is_directory}
 use Rattle.sv_check.specs.Sound.{IsWalked, node_of}
 use Rattle.sv_check.proofs.BooleanTests.{and_left, at_most-test, or_none}
@@ -103,11 +105,13 @@ module _ (image : List ℕ) (w : IsWalked image) (fs : Fs) (rest : IsAtRest (sti
 
     second-is : above (e 0 ∷ e 1 ∷ map e (range_with_len 2 (count - 2))) ≡ Some parent
     second-is =
-        ap (λ (t : Bool). option_map named_by (cond t (Some (e 1)) None)) (agree (name_in (e 1)) dots (entry-name bs (node d) 1 ∙ is.dots_name))
+        ap (λ (t : Bool). option_map named_by (cond t (Some (e 1)) None))
+        (agree (name_in (e 1)) dots (entry-name bs (node d) 1 ∙ is.dots_name))
         ∙ ap (λ (n : ℕ). Some n) (entry-inode bs (node d) 1)
 
     -- no later entry has one of these names
-    later-name : (j k : ℕ) (name : List ℕ) → k < 2 → 2 ≤ j → j < count → entry_inode bs (node d) k ≢ 0 → entry_name bs (node d) k ≡ name → name ≢ [] → name_in (e j) ≢ name
+    later-name : (j k : ℕ) (name : List ℕ) → k < 2 → 2 ≤ j → j < count → entry_inode bs (node d) k ≢ 0 → entry_name bs (node d) k ≡ name
+        → name ≢ [] → name_in (e j) ≢ name
     unfolding entry_name
     later-name j k name first past below some is_name any same =
         let here : entry_name bs (node d) j ≡ name = sym (entry-name bs (node d) j) ∙ same in
@@ -119,7 +123,8 @@ module _ (image : List ℕ) (w : IsWalked image) (fs : Fs) (rest : IsAtRest (sti
     later-entry : (j : ℕ) → 2 ≤ j → j < count → (not (same_bytes (name_in (e j)) dot) && not (same_bytes (name_in (e j)) dots)) ≡ true
     later-entry j past below =
         ap (λ (t : Bool). not t && not (same_bytes (name_in (e j)) dots))
-        (differ (name_in (e j)) dot (later-name j 0 dot (omega arith) past below (λ z. (let it = is.dot in omega (arith, it, z, low))) is.dot_name (λ (no : dot ≡ []). cc)))
+        (differ (name_in (e j)) dot (later-name j 0 dot (omega arith) past below
+        (λ z. (let it = is.dot in omega (arith, it, z, low))) is.dot_name (λ (no : dot ≡ []). cc)))
         ∙ ap not (differ (name_in (e j)) dots (later-name j 1 dots (omega arith) past below is.dots is.dots_name (λ (no : dots ≡ []). cc)))
 
     once-is : has_dots_once (e 0 ∷ e 1 ∷ map e (range_with_len 2 (count - 2))) ≡ true
@@ -135,7 +140,8 @@ module _ (image : List ℕ) (w : IsWalked image) (fs : Fs) (rest : IsAtRest (sti
 
     -- the directory above one that is not the root, and that it holds this one once
     pub other-placed : d ≢ 2 → IsPlaced bs nodes d parent
-    other-placed other = rest.whole.placed d (node d) (dir-there image w fs rest d low high so) (dir-live image w fs rest d low high so) other
+    other-placed other =
+        rest.whole.placed d (node d) (dir-there image w fs rest d low high so) (dir-live image w fs rest d low high so) other
 
     pub parent-live : d ≢ 2 → IsLiveDir image w fs rest parent (node parent)
     parent-live other =
@@ -153,7 +159,8 @@ module _ (image : List ℕ) (w : IsWalked image) (fs : Fs) (rest : IsAtRest (sti
         dir-children image w parent l.low l.high l.so d ∙ ap (λ (n : Node). state.naming_count bs n 2 d) (sym l.node_is) ∙ p.3 in
         the_element parent (holders_of (namings g image) d) one
         (ap (λ (l : List ℕ). list_any (λ y. y == parent) l) (sym (holders-flat image w (linked image w fs rest) d))
-        ∙ any_joined (λ m. is_directory (inode_of g image m)) (λ m. holders_of (namings_of g image m) d) (λ y. y == parent) (inode_count g) 1 parent l.low l.high l.so
+        ∙ any_joined (λ m. is_directory (inode_of g image m)) (λ m. holders_of (namings_of g image m) d) (λ y. y == parent)
+        (inode_count g) 1 parent l.low l.high l.so
         (own_any parent (holders_of (namings_of g image parent) d) there (dir-own image w parent l.low l.high l.so d)))
 
     placed-is : is_placed (namings g image) d parent ≡ true
@@ -162,16 +169,19 @@ module _ (image : List ℕ) (w : IsWalked image) (fs : Fs) (rest : IsAtRest (sti
           | inl two ↦
               let up : parent ≡ 2 = sym parent-here ∙ ap (parent_of bs nodes) two ∙ rest.whole.root.above in
               let none : holders_of (namings g image) 2 ≡ [] = no_element _ (sym (children-are 2) ∙ rest.whole.root.unnamed) in
-              ap (λ (t : Bool). if t then ((parent == 2) && same_bytes (holders_of (namings g image) 2) []) else same_bytes (holders_of (namings g image) d) (parent ∷ [])) (eq-eqb d 2 two)
+              ap (λ (t : Bool). if t then ((parent == 2) && same_bytes (holders_of (namings g image) 2) [])
+              else same_bytes (holders_of (namings g image) d) (parent ∷ [])) (eq-eqb d 2 two)
               ∙ ap (λ (t : Bool). t && same_bytes (holders_of (namings g image) 2) []) (eq-eqb parent 2 up) ∙ agree _ [] none
           | inr other ↦
-              ap (λ (t : Bool). if t then ((parent == 2) && same_bytes (holders_of (namings g image) 2) []) else same_bytes (holders_of (namings g image) d) (parent ∷ [])) (ne_eqb d 2 other)
+              ap (λ (t : Bool). if t then ((parent == 2) && same_bytes (holders_of (namings g image) 2) [])
+              else same_bytes (holders_of (namings g image) d) (parent ∷ [])) (ne_eqb d 2 other)
               ∙ agree (holders_of (namings g image) d) (parent ∷ []) (holder-is other)
         ]
 
   -- ---- the way to the root
 
-  climbs : (k d : ℕ) → 1 ≤ d → d < 1 + inode_count g → is_directory (inode_of g image d) ≡ true → ascend bs nodes k d ≡ 2 → rises_to_root (above_in g image) k d ≡ true
+  climbs : (k d : ℕ) → 1 ≤ d → d < 1 + inode_count g → is_directory (inode_of g image d) ≡ true → ascend bs nodes k d ≡ 2
+      → rises_to_root (above_in g image) k d ≡ true
   climbs zero d low high so comes = root_rises (above_in g image) zero d comes
   climbs (suc k) d low high so comes =
       elim (cases_eq d 2) [
@@ -188,14 +198,19 @@ module _ (image : List ℕ) (w : IsWalked image) (fs : Fs) (rest : IsAtRest (sti
       ap (λ (t : Bool). if is_directory (inode_of g image d) && t then above (entries g image d) else None) high
       ∙ ap (λ (t : Bool). if t then above (entries g image d) else None) (and_false (is_directory (inode_of g image d)))
 
-  rises-is : (d : ℕ) → 1 ≤ d → d < 1 + inode_count g → is_directory (inode_of g image d) ≡ true → rises_to_root (above_in g image) (inode_count g) d ≡ true
+  rises-is : (d : ℕ) → 1 ≤ d → d < 1 + inode_count g → is_directory (inode_of g image d) ≡ true
+      → rises_to_root (above_in g image) (inode_count g) d ≡ true
   rises-is d low high so =
       let way = rest.whole.ascends d (node d) (dir-there image w fs rest d low high so) (dir-live image w fs rest d low high so) in
-      rises_soon (above_in g image) (inode_count g) (let top = root.high in omega (arith, top)) none_above way.0 d (climbs way.0 d low high so way.1)
+      rises_soon (above_in g image) (inode_count g) (let top = root.high in omega (arith, top)) none_above way.0 d
+      (climbs way.0 d low high so way.1)
 
-  dots-right : (d : ℕ) → 1 ≤ d → d < 1 + inode_count g → is_directory (inode_of g image d) ≡ true → are_dots g image (namings g image) d (entries g image d) ≡ true
+  dots-right : (d : ℕ) → 1 ≤ d → d < 1 + inode_count g → is_directory (inode_of g image d) ≡ true
+      → are_dots g image (namings g image) d (entries g image d) ≡ true
   dots-right d low high so =
-      let es : List (List ℕ) = entry_bytes bs (node d) 0 ∷ entry_bytes bs (node d) 1 ∷ map (entry_bytes bs (node d)) (range_with_len 2 (entry_count (node d) - 2)) in
+      let es : List (List ℕ) =
+      entry_bytes bs (node d) 0 ∷ entry_bytes bs (node d) 1
+      ∷ map (entry_bytes bs (node d)) (range_with_len 2 (entry_count (node d) - 2)) in
       let up : Bool = rises_to_root (above_in g image) (inode_count g) d in
       ap (are_dots g image (namings g image) d) (es-two d low high so)
       ∙ ap (λ (t : Bool). t && some_and (above es) (is_placed (namings g image) d) && has_dots_once es && up) (first-is d low high so)
@@ -206,5 +221,6 @@ module _ (image : List ℕ) (w : IsWalked image) (fs : Fs) (rest : IsAtRest (sti
   pub dots_hold : dots_flaw g image ≡ None
   unfolding dots_flaw directories
   dots_hold =
-      none_found (λ d. not (are_dots g image (namings g image) d (entries g image d))) (λ d. is_directory (inode_of g image d)) (inode_count g) 1
+      none_found (λ d. not (are_dots g image (namings g image) d (entries g image d))) (λ d. is_directory (inode_of g image d))
+      (inode_count g) 1
       (λ d low high so. ap not (dots-right d low high so))

@@ -1,5 +1,6 @@
 -- Conditions 4 and 5 from the lines of the inodes.
-use Rattle.std.proofs.Common.{◌≡◌, ◌≤◌, ◌<◌, ◌+◌, ◌%◌, ◌==◌, ◌&&◌, ◌||◌, ◌∙◌, ℕ, Bool, not, true, false, List, Option, Some, None, inl, inr, ap, sym, refl, subst, replicate, nat_lt, arith}
+use Rattle.std.proofs.Common.{◌≡◌, ◌≤◌, ◌<◌, ◌+◌, ◌%◌, ◌==◌, ◌&&◌, ◌||◌, ◌∙◌, ℕ, Bool, not, true, false, List, Option, Some, None, inl, inr}
+use Rattle.std.proofs.Common.{ap, sym, refl, subst, replicate, nat_lt, arith}
 use Rattle.std.specs.FinMap as map
 use Rattle.std.proofs.lemmas.Bool.{cases_eq, eq-eqb, ne_eqb}
 use Rattle.sv_form.specs.declared.geometry.Geometry.{Geometry}
@@ -25,8 +26,10 @@ use Rattle.sv_files.proofs.HeldBytes.{same_line}
 use Rattle.sv_files.proofs.RangeTests.{found_none}
 
 -- an inode of the image whose line is held
-pub held-inode : (o : Origin) (image : List ℕ) (h : Held) (n : ℕ) (line : List ℕ) → HasLines o.sizes image h → h (inode_place o.sizes n).block (inode_place o.sizes n).line ≡ Some line → inode_of o.sizes image n ≡ line
-held-inode o image h n line lines there = same_line o.sizes image (inode_place o.sizes n) ∙ sym (lines.at (inode_place o.sizes n).block (inode_place o.sizes n).line line there)
+pub held-inode : (o : Origin) (image : List ℕ) (h : Held) (n : ℕ) (line : List ℕ) → HasLines o.sizes image h
+    → h (inode_place o.sizes n).block (inode_place o.sizes n).line ≡ Some line → inode_of o.sizes image n ≡ line
+held-inode o image h n line lines there =
+    same_line o.sizes image (inode_place o.sizes n) ∙ sym (lines.at (inode_place o.sizes n).block (inode_place o.sizes n).line line there)
 
 -- ---- an inode that is free
 
@@ -43,7 +46,8 @@ module _ (g : Geometry) (n : ℕ) (inode : List ℕ) (zeros : inode ≡ replicat
 
 -- ---- an inode that a node describes
 
-module _ (o : Origin) (fs : Fs) (rest : IsAtRest fs) (has : HasNumbersOf o fs) (h : Held) (n : ℕ) (node : Node) (there : map.get fs.nodes n ≡ Some node) (holds : HoldsInode o h n node) where
+module _ (o : Origin) (fs : Fs) (rest : IsAtRest fs) (has : HasNumbersOf o fs) (h : Held) (n : ℕ) (node : Node)
+    (there : map.get fs.nodes n ≡ Some node) (holds : HoldsInode o h n node) where
   shows : ShowsBody holds.line holds.body
   shows = shows_inode holds.line (Used holds.body) holds.spelled
 
@@ -70,7 +74,8 @@ module _ (o : Origin) (fs : Fs) (rest : IsAtRest fs) (has : HasNumbersOf o fs) (
   dir-live : (k : Kind) → node.kind ≡ k → is_dir k ≡ true → state.is_live node ≡ true
   dir-live k is dir =
       let some = rest.linked n node there in
-      ap (λ (c : Kind). is_dir c && nat_lt 0 node.links) is ∙ ap (λ (t : Bool). t && nat_lt 0 node.links) dir ∙ below-test 0 node.links (omega (arith, some))
+      ap (λ (c : Kind). is_dir c && nat_lt 0 node.links) is ∙ ap (λ (t : Bool). t && nat_lt 0 node.links) dir
+      ∙ below-test 0 node.links (omega (arith, some))
 
   dir-sized : (t : Bool) → is_dir node.kind ≡ t → (t && (nat_lt (size_of holds.line) 32 || not (size_of holds.line % 16 == 0))) ≡ false
   dir-sized false is = refl
@@ -85,11 +90,13 @@ module _ (o : Origin) (fs : Fs) (rest : IsAtRest fs) (has : HasNumbersOf o fs) (
   used-sized : is_missized o.sizes holds.line ≡ false
   used-sized =
       ap (λ (t : Bool). t || (is_directory holds.line && (nat_lt (size_of holds.line) 32 || not (size_of holds.line % 16 == 0)))) size-fits
-      ∙ ap (λ (t : Bool). t && (nat_lt (size_of holds.line) 32 || not (size_of holds.line % 16 == 0))) kind-is ∙ dir-sized (is_dir node.kind) refl
+      ∙ ap (λ (t : Bool). t && (nat_lt (size_of holds.line) 32 || not (size_of holds.line % 16 == 0))) kind-is
+      ∙ dir-sized (is_dir node.kind) refl
 
 -- ---- all inodes
 
-module _ (image : List ℕ) (o : Origin) (fs : Fs) (parts : ℕ → Held) (others : Held) (used : List Bool) (sized_as : IsSizedAs o.sizes image) (has : HasNumbersOf o fs) (rest : IsAtRest fs)
+module _ (image : List ℕ) (o : Origin) (fs : Fs) (parts : ℕ → Held) (others : Held) (used : List Bool) (sized_as : IsSizedAs o.sizes image)
+    (has : HasNumbersOf o fs) (rest : IsAtRest fs)
     (all : HoldsAllInodes o image fs parts others used) where
   -- both tests of one inode
   record IsFine (n : ℕ) : Type 0 where
@@ -127,7 +134,8 @@ module _ (image : List ℕ) (o : Origin) (fs : Fs) (parts : ℕ → Held) (other
 
   size-none : size_flaw o.sizes image ≡ None
   unfolding size_flaw
-  size-none = found_none (λ n. is_missized o.sizes (inode_of o.sizes image n)) (inode_count o.sizes) 1 (λ n low high. (fine n low high).sized)
+  size-none =
+      found_none (λ n. is_missized o.sizes (inode_of o.sizes image n)) (inode_count o.sizes) 1 (λ n low high. (fine n low high).sized)
 
   in_order : HasInodesInOrder image
   in_order = record {

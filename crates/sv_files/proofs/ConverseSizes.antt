@@ -1,5 +1,6 @@
 -- Conditions 1 to 3 and 12 from the lines of a flushed core.
-use Rattle.std.proofs.Common.{◌≡◌, ◌≢◌, ◌≤◌, ◌<◌, ◌-◌, ◌*◌, ◌==◌, ◌&&◌, ◌||◌, ◌∷◌, [], ◌∙◌, ℕ, Bool, not, true, false, List, Some, None, inl, inr, ap, sym, refl, subst, cond, length, replicate, nat_le, nat_lt, arith}
+use Rattle.std.proofs.Common.{◌≡◌, ◌≢◌, ◌≤◌, ◌<◌, ◌-◌, ◌*◌, ◌==◌, ◌&&◌, ◌||◌, ◌∷◌, [], ◌∙◌, ℕ, Bool, not, true, false, List, Some, None}
+use Rattle.std.proofs.Common.{inl, inr, ap, sym, refl, subst, cond, length, replicate, nat_le, nat_lt, arith}
 use Rattle.std.specs.List.{slice_index_or}
 use Rattle.std.proofs.lemmas.Bool.{cases_lt, false≢true, ne_eqb}
 use Rattle.std.proofs.lemmas.List.{get_or_past}
@@ -38,7 +39,8 @@ module _ (image : List ℕ) (o : Origin) (h : Held) (head : Head) (order cached 
 
   pub flushed_sized : IsSizedAs g image
   flushed_sized =
-      let size : (sizes_of s).blocks * (sizes_of s).block_size ≡ g.blocks * g.block_size = ap (λ (x : Geometry). x.blocks * x.block_size) same-sizes in
+      let size : (sizes_of s).blocks * (sizes_of s).block_size ≡ g.blocks * g.block_size =
+      ap (λ (x : Geometry). x.blocks * x.block_size) same-sizes in
       record {
         sized =
             sized image (superblock_of image) refl s (length image) refl
@@ -52,7 +54,9 @@ module _ (image : List ℕ) (o : Origin) (h : Held) (head : Head) (order cached 
 
 all_four : (a b c d : Bool) → a ≡ true → b ≡ true → c ≡ true → d ≡ true → (a && b && c && d) ≡ true
 all_four a b c d e1 e2 e3 e4 =
-    ap (λ (t : Bool). t && b && c && d) e1 ∙ (ap (λ (t : Bool). true && t && c && d) e2 ∙ (ap (λ (t : Bool). true && true && t && d) e3 ∙ ap (λ (t : Bool). true && true && true && t) e4))
+    ap (λ (t : Bool). t && b && c && d) e1
+    ∙ (ap (λ (t : Bool). true && t && c && d) e2
+    ∙ (ap (λ (t : Bool). true && true && t && d) e3 ∙ ap (λ (t : Bool). true && true && true && t) e4))
 
 -- a number may stand in the cache
 pub record IsCacheable (g : Geometry) (image : List ℕ) (n : ℕ) : Type 0 where
@@ -83,14 +87,16 @@ module _ (g : Geometry) (image : List ℕ) where
       let here : times m rest ≡ times n rest = ap (λ (x : ℕ). times x rest) same in
       omega (arith, one, few, some, here)
 
-  all-cacheable : (before : ℕ → Bool) (list : List ℕ) → ((n : ℕ) → 0 < times n list → IsCacheable g image n) → ((n : ℕ) → 0 < times n list → before n ≡ false) → ((n : ℕ) → times n list ≤ 1)
+  all-cacheable : (before : ℕ → Bool) (list : List ℕ) → ((n : ℕ) → 0 < times n list → IsCacheable g image n)
+      → ((n : ℕ) → 0 < times n list → before n ≡ false) → ((n : ℕ) → times n list ≤ 1)
       → first_uncacheable g image before list ≡ None
   unfolding first_uncacheable
   all-cacheable before [] can new once = refl
   all-cacheable before (n ∷ rest) can new once =
       let is = can n (times-first n rest) in
       let stands : is_cacheable g image before n ≡ true =
-      all_four (nat_le 2 n) (nat_le n (inode_count g)) (is_free (inode_of g image n)) (not (before n)) (at_most-test 2 n is.least) (at_most-test n (inode_count g) is.most) is.free
+      all_four (nat_le 2 n) (nat_le n (inode_count g)) (is_free (inode_of g image n)) (not (before n)) (at_most-test 2 n is.least)
+      (at_most-test n (inode_count g) is.most) is.free
       (ap not (new n (times-first n rest))) in
       ap (λ (t : Bool). cond t (first_uncacheable g image (with_met before n) rest) (Some n)) stands
       ∙ all-cacheable (with_met before n) rest
@@ -118,11 +124,13 @@ free-most used n e =
       | inr past ↦ absurd (false≢true (sym is ∙ get_or_past used (n - 1) true past))
     ]
 
-module _ (image : List ℕ) (o : Origin) (h : Held) (head : Head) (order cached : List ℕ) (f : IsFlushed o image h head order cached) (used : List Bool) (are : AreFreeInodes o h used cached) where
+module _ (image : List ℕ) (o : Origin) (h : Held) (head : Head) (order cached : List ℕ) (f : IsFlushed o image h head order cached)
+    (used : List Bool) (are : AreFreeInodes o h used cached) where
   free-zero : (n : ℕ) → is_free_inode used n ≡ true → is_free (inode_of o.sizes image n) ≡ true
   free-zero n e =
       let line : inode_of o.sizes image n ≡ replicate 64 0 =
-      same_line o.sizes image (inode_place o.sizes n) ∙ sym (f.lines.at (inode_place o.sizes n).block (inode_place o.sizes n).line (replicate 64 0) (are.inodes.zeros n e)) in
+      same_line o.sizes image (inode_place o.sizes n)
+      ∙ sym (f.lines.at (inode_place o.sizes n).block (inode_place o.sizes n).line (replicate 64 0) (are.inodes.zeros n e)) in
       ap (λ (x : List ℕ). is_free x) line
 
   cacheable : (n : ℕ) → is_free_inode used n ≡ true → IsCacheable o.sizes image n
@@ -135,8 +143,10 @@ module _ (image : List ℕ) (o : Origin) (h : Held) (head : Head) (order cached 
   pub flushed_cached : cache_flaw (geometry_of image) image ≡ None
   unfolding cache_flaw
   flushed_cached =
-      ap (first_uncacheable (geometry_of image) image nothing_met) (cached-read (geometry_of image) image (super_of head f.written.list cached) (spelled-here image o h head order cached f))
-      ∙ subst (λ (x : Geometry). first_uncacheable x image nothing_met cached ≡ None) (sym (flushed_sized image o h head order cached f).sizes)
+      ap (first_uncacheable (geometry_of image) image nothing_met)
+      (cached-read (geometry_of image) image (super_of head f.written.list cached) (spelled-here image o h head order cached f))
+      ∙ subst (λ (x : Geometry). first_uncacheable x image nothing_met cached ≡ None)
+      (sym (flushed_sized image o h head order cached f).sizes)
       (all-cacheable o.sizes image nothing_met cached (λ n some. cacheable n (are.free n some)) (λ n some. refl) are.once)
 
 pub flushed_is_sized : FlushedIsSized

@@ -1,5 +1,6 @@
 -- All sixteen conditions from the lines of a file system that was closed.
-use Rattle.std.proofs.Common.{◌≡◌, ◌≢◌, ◌<◌, ◌+◌, ◌==◌, ◌||◌, ◌∷◌, [], ◌⊎◌, ◌∙◌, ℕ, Bool, not, true, false, List, Option, IsSome, is_some, inl, inr, ap, sym, refl, map, slice_index, arith}
+use Rattle.std.proofs.Common.{◌≡◌, ◌≢◌, ◌<◌, ◌+◌, ◌==◌, ◌||◌, ◌∷◌, [], ◌⊎◌, ◌∙◌, ℕ, Bool, not, true, false, List, Option, IsSome, is_some}
+use Rattle.std.proofs.Common.{inl, inr, ap, sym, refl, map, slice_index, arith}
 use Rattle.std.specs.List.{list_any}
 use Rattle.std.proofs.lemmas.Bool.{eq-eqb, false≢true, ne_eqb}
 use Rattle.sv_form.specs.declared.geometry.Geometry.{Geometry}
@@ -40,7 +41,8 @@ use Rattle.sv_files.proofs.RangeTests.{any_joined}
 
 -- ---- lists
 
-times_by : (t : Bool) (b : ℕ) (xs : List ℕ) → (is_among xs b ≡ true → 0 < times b xs) → (t || is_among xs b) ≡ true → 0 < one_if t + times b xs
+times_by : (t : Bool) (b : ℕ) (xs : List ℕ) → (is_among xs b ≡ true → 0 < times b xs) → (t || is_among xs b) ≡ true
+    → 0 < one_if t + times b xs
 times_by true b xs later e = omega arith
 times_by false b xs later e = let rest = later e in omega (arith, rest)
 
@@ -54,7 +56,8 @@ any_map : {X Y : Type 0} (f : X → Y) (test : Y → Bool) (xs : List X) → lis
 any_map f test [] = refl
 any_map f test (x ∷ xs) = ap (λ (t : Bool). test (f x) || t) (any_map f test xs)
 
-module _ (image : List ℕ) (o : Origin) (fs : Fs) (parts : ℕ → Held) (others : Held) (used : List Bool) (head : Head) (order cached : List ℕ) (c : IsClosed o image fs parts others used head order cached) where
+module _ (image : List ℕ) (o : Origin) (fs : Fs) (parts : ℕ → Held) (others : Held) (used : List Bool) (head : Head) (order cached : List ℕ)
+    (c : IsClosed o image fs parts others used head order cached) where
   abbrev g : Geometry
   g = o.sizes
 
@@ -79,7 +82,9 @@ module _ (image : List ℕ) (o : Origin) (fs : Fs) (parts : ℕ → Held) (other
       let i = one_in number b is_used (met_of g image) (inode_count g) 1 (times_among b (walked g image) met) in
       let x = node_at image o fs parts others used sizes sized_as c.nodes i.at i.low i.high i.so in
       let there = i.some in
-      let holds = holds-reached image o fs parts others used sizes sized_as c.nodes i.at x.node x.there b (omega (arith, there, met-of image o fs parts others used sizes sized_as c.nodes i.at b)) in
+      let holds =
+      holds-reached image o fs parts others used sizes sized_as c.nodes i.at x.node x.there b
+      (omega (arith, there, met-of image o fs parts others used sizes sized_as c.nodes i.at b)) in
       let size = sizes.block_size in
       (i.at, holds.at 0 (omega (arith, size)))
 
@@ -113,16 +118,20 @@ module _ (image : List ℕ) (o : Origin) (fs : Fs) (parts : ℕ → Held) (other
         let low = i.spot.among in
         let on : down (parts n) (address_of inode i.slot) i.ks ≢ 0 = λ none. some (sym down-is ∙ none) in
         let deep = i.spot.deep in
-        any_joined (λ k. not (address_of inode k == 0)) (λ k. reached_under g image (height_of k) (first_page g k) (address_of inode k)) (λ (r : Reached). r.block == b) 13 0 i.slot (omega arith) (omega (arith, low))
+        any_joined (λ k. not (address_of inode k == 0)) (λ k. reached_under g image (height_of k) (first_page g k) (address_of inode k))
+        (λ (r : Reached). r.block == b) 13 0 i.slot (omega arith) (omega (arith, low))
         (ap not (ne_eqb (address_of inode i.slot) 0 (hole-down o image (parts n) (c.nodes.lines n) (address_of inode i.slot) i.ks on)))
-        (met_under o image (parts n) (c.nodes.lines n) (height_of i.slot) (first_page g i.slot) (address_of inode i.slot) i.ks (record { deep = omega (arith, deep); places = i.spot.places }) on
-        (below o image (parts n) (c.nodes.lines n) inode a (c.nodes.nodes n i.node i.there).stands.tree same i.slot low) (λ (r : Reached). r.block == b)
+        (met_under o image (parts n) (c.nodes.lines n) (height_of i.slot) (first_page g i.slot) (address_of inode i.slot) i.ks
+        (record { deep = omega (arith, deep); places = i.spot.places }) on
+        (below o image (parts n) (c.nodes.lines n) inode a (c.nodes.nodes n i.node i.there).stands.tree same i.slot low)
+        (λ (r : Reached). r.block == b)
         (λ r is. eq-eqb r.block b (is ∙ down-is)))
 
     used-here : is_used n ≡ true
     used-here =
         ap (λ (x : List ℕ). not (is_free x)) (same-inode image o fs parts others used sizes sized_as c.nodes n i.node i.there)
-        ∙ ap not (shows_inode (c.nodes.nodes n i.node i.there).line (Used (c.nodes.nodes n i.node i.there).body) (c.nodes.nodes n i.node i.there).spelled).used
+        ∙ ap not (shows_inode (c.nodes.nodes n i.node i.there).line (Used (c.nodes.nodes n i.node i.there).body)
+        (c.nodes.nodes n i.node i.there).spelled).used
 
     met-here : is_among (walked g image) b ≡ true
     unfolding walk used_inodes
@@ -133,10 +142,12 @@ module _ (image : List ℕ) (o : Origin) (fs : Fs) (parts : ℕ → Held) (other
         let many = c.numbers.inodes in
         let mk : Reached → Met = λ r. record { inode = n; block = r.block } in
         any_map number (λ x. x == b) (walk g image)
-        ∙ any_joined is_used (met_of g image) (λ m. number m == b) (inode_count g) 1 n (omega (arith, least)) (omega (arith, most, many)) used-here
+        ∙ any_joined is_used (met_of g image) (λ m. number m == b) (inode_count g) 1 n (omega (arith, least))
+        (omega (arith, most, many)) used-here
         (any_map mk (λ m. number m == b) (reached g image inode) ∙ reached-here)
 
-  free_by : (b : ℕ) → IsDataBlock o.sizes b → is_among (walked g image) b ≡ false → IsSome (others b 0) ⊎ ((n : ℕ) × IsSome (parts n b 0)) → 0 < times b order
+  free_by : (b : ℕ) → IsDataBlock o.sizes b → is_among (walked g image) b ≡ false → IsSome (others b 0) ⊎ ((n : ℕ) × IsSome (parts n b 0))
+      → 0 < times b order
   free_by b is none (inl here) = c.shared.tight_rest b 0 here is
   free_by b is none (inr at) = absurd (false≢true (sym none ∙ met-here at.0 b is (c.shared.tight at.0 b 0 at.1 is)))
 

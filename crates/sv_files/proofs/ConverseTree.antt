@@ -1,5 +1,6 @@
 -- The tree of an image that has the lines of the nodes is these nodes.
-use Rattle.std.proofs.Common.{◌≡◌, ◌∷◌, [], ◌<◌, ◌*◌, ◌%◌, ◌==◌, ◌&&◌, ◌∙◌, ℕ, Bool, not, true, false, List, Option, Some, None, ap, sym, refl, if◌then◌else◌, length, option_map, slice_index, arith}
+use Rattle.std.proofs.Common.{◌≡◌, ◌∷◌, [], ◌<◌, ◌*◌, ◌%◌, ◌==◌, ◌&&◌, ◌∙◌, ℕ, Bool, not, true, false, List, Option, Some, None, ap, sym}
+use Rattle.std.proofs.Common.{refl, if◌then◌else◌, length, option_map, slice_index, arith}
 use Rattle.std.specs.Cmp.{nat_cmp_total}
 use Rattle.std.specs.List.{list_all, list_any}
 use Rattle.std.specs.FinMap as fmap
@@ -46,7 +47,8 @@ kind_from : (k : Kind) → (if is_dir k then Dir else File) ≡ k
 kind_from File = refl
 kind_from Dir = refl
 
-module _ (image : List ℕ) (o : Origin) (fs : Fs) (parts : ℕ → Held) (others : Held) (used : List Bool) (sizes : IsGeometry o.sizes) (sized_as : IsSizedAs o.sizes image) (has : HasNumbersOf o fs) (rest : IsAtRest fs)
+module _ (image : List ℕ) (o : Origin) (fs : Fs) (parts : ℕ → Held) (others : Held) (used : List Bool) (sizes : IsGeometry o.sizes)
+    (sized_as : IsSizedAs o.sizes image) (has : HasNumbersOf o fs) (rest : IsAtRest fs)
     (all : HoldsAllInodes o image fs parts others used) where
   abbrev g : Geometry
   g = o.sizes
@@ -79,7 +81,8 @@ module _ (image : List ℕ) (o : Origin) (fs : Fs) (parts : ℕ → Held) (other
     kind-is : (if is_directory inode then Dir else File) ≡ node.kind
     kind-is =
         ap (λ (x : List ℕ). if is_directory x then Dir else File) same
-        ∙ ap (λ (t : Bool). if t then Dir else File) (shows_inode (all.nodes n node there).line (Used body) (all.nodes n node there).spelled).directory
+        ∙ ap (λ (t : Bool). if t then Dir else File)
+        (shows_inode (all.nodes n node there).line (Used body) (all.nodes n node there).spelled).directory
         ∙ kind_from body.kind ∙ (all.nodes n node there).stands.described.kind
 
     mode-is : number16 inode 0 % 4096 ≡ node.mode
@@ -97,7 +100,10 @@ module _ (image : List ℕ) (o : Origin) (fs : Fs) (parts : ℕ → Held) (other
     inside : list_all (is_inside g) (reached g image inode) ≡ true
     inside =
         all_each (is_inside g) (reached g image inode)
-        (each_map of_tree (λ r. is_inside g r ≡ true) (λ r f. below-test r.block g.blocks (inside-from o image (parts n) (all.lines n) inode body node (all.nodes n node there).stands at sizes size r f)) (reached g image inode) each)
+        (each_map of_tree (λ r. is_inside g r ≡ true)
+        (λ r f. below-test r.block g.blocks
+        (inside-from o image (parts n) (all.lines n) inode body node (all.nodes n node there).stands at sizes size r f)) (reached g
+        image inode) each)
 
     module _ (k : ℕ) where
       abbrev is_here : Reached → Bool
@@ -121,10 +127,13 @@ module _ (image : List ℕ) (o : Origin) (fs : Fs) (parts : ℕ → Held) (other
       page-absent : fmap.get node.pages k ≡ None → page_in g image (reached g image inode) k ≡ fmap.get node.pages k
       page-absent none =
           ap (option_map (λ (r : Reached). block_of g image r.block))
-          (none_found_in is_here (reached g image inode) (none_passes is_here (reached g image inode) (each_map of_tree (λ r. is_here r ≡ false) (λ r f. not_here none r f (is_here r) refl) (reached g image inode) each)))
+          (none_found_in is_here (reached g image inode)
+          (none_passes is_here (reached g image inode)
+          (each_map of_tree (λ r. is_here r ≡ false) (λ r f. not_here none r f (is_here r) refl) (reached g image inode) each)))
           ∙ sym none
 
-      page-present : (bytes : List ℕ) → fmap.get node.pages k ≡ Some bytes → page_in g image (reached g image inode) k ≡ fmap.get node.pages k
+      page-present : (bytes : List ℕ) → fmap.get node.pages k ≡ Some bytes
+          → page_in g image (reached g image inode) k ≡ fmap.get node.pages k
       page-present bytes is =
           let some : list_any is_here (reached g image inode) ≡ true =
           there_from o image (parts n) (all.lines n) inode body node (all.nodes n node there).stands at sizes size k bytes is is_here
@@ -152,7 +161,8 @@ module _ (image : List ℕ) (o : Origin) (fs : Fs) (parts : ℕ → Held) (other
     }
 
     used-here : is_free inode ≡ false
-    used-here = ap (λ (x : List ℕ). is_free x) same ∙ (shows_inode (all.nodes n node there).line (Used body) (all.nodes n node there).spelled).used
+    used-here =
+        ap (λ (x : List ℕ). is_free x) same ∙ (shows_inode (all.nodes n node there).line (Used body) (all.nodes n node there).spelled).used
 
     pub tree-has : fmap.get (nodes_to g image (inode_count g)) n ≡ Some node
     tree-has =
@@ -176,7 +186,9 @@ module _ (image : List ℕ) (o : Origin) (fs : Fs) (parts : ℕ → Held) (other
   same_at n (Some node) is = tree-has n node is ∙ sym is
 
   nodes-are : nodes_to g image (inode_count g) ≡ fs.nodes
-  nodes-are = fmap.same_map nat_cmp_total nat_cmp-IsAntisymmetric (nodes_to g image (inode_count g)) fs.nodes (λ n. same_at n (fmap.get fs.nodes n) refl)
+  nodes-are =
+      fmap.same_map nat_cmp_total nat_cmp-IsAntisymmetric (nodes_to g image (inode_count g)) fs.nodes
+      (λ n. same_at n (fmap.get fs.nodes n) refl)
 
   tree-is : tree image ≡ fs.nodes
   unfolding tree used_inodes

@@ -1,5 +1,7 @@
 -- Conditions 6 and 7 from the address trees of the inodes.
-use Rattle.std.proofs.Common.{◌≡◌, ◌≢◌, ◌≤◌, ◌<◌, ◌+◌, ◌==◌, ◌&&◌, ◌||◌, ◌∷◌, [], ◌∙◌, ℕ, Bool, not, true, false, List, Option, Some, None, is_some, inl, inr, ap, sym, refl, subst, cond, if◌then◌else◌, map, replicate, slice_index, nat_lt, option_and_then, arith}
+use Rattle.std.proofs.Common.{◌≡◌, ◌≢◌, ◌≤◌, ◌<◌, ◌+◌, ◌==◌, ◌&&◌, ◌||◌, ◌∷◌, [], ◌∙◌, ℕ, Bool, not, true, false, List, Option, Some, None}
+use Rattle.std.proofs.Common.{is_some, inl, inr, ap, sym, refl, subst, cond, if◌then◌else◌, map, replicate, slice_index, nat_lt}
+use Rattle.std.proofs.Common.{option_and_then, arith}
 use Rattle.std.specs.FinMap as fmap
 use Rattle.std.proofs.lemmas.Bool.{cases_eq, false≢true, ne_eqb}
 use Rattle.sv_form.specs.declared.geometry.Geometry.{Geometry}
@@ -13,7 +15,8 @@ use Rattle.sv_super.proofs.Counts.{times-cons}
 use Rattle.sv_plain.specs.Front.{address_of}
 use Rattle.sv_plain.specs.Fs.{Fs}
 use Rattle.sv_check.specs.InodeList.{is_free, used_inodes}
-use Rattle.sv_check.specs.Walk.{Reached, first_bad, is_data_block, is_new, met_of, nothing_met, range_flaw, reached, twice_flaw, walk, with_met}
+use Rattle.sv_check.specs.Walk.{Reached, first_bad, is_data_block, is_new, met_of, nothing_met, range_flaw, reached, twice_flaw, walk}
+use Rattle.sv_check.specs.Walk.{with_met}
 use Rattle.sv_check.proofs.BooleanTests.{at_most-test, below-test, not_true}
 use Rattle.sv_check.proofs.InodeReads.{shows_inode}
 use Rattle.sv_check.proofs.WalkMet.{Met}
@@ -43,7 +46,8 @@ new_number c b rest once some same =
     let here : met number c rest ≡ met number b rest = ap (λ (x : ℕ). met number x rest) same in
     omega (arith, one, once, some, here, times-cons b b (map number rest))
 
-no_bad : (g : Geometry) (list : List Met) (before : ℕ → Bool) → ((c : ℕ) → 0 < met number c list → IsDataBlock g c × (before c ≡ false)) → ((c : ℕ) → met number c list ≤ 1)
+no_bad : (g : Geometry) (list : List Met) (before : ℕ → Bool) → ((c : ℕ) → 0 < met number c list → IsDataBlock g c × (before c ≡ false))
+    → ((c : ℕ) → met number c list ≤ 1)
     → first_bad g before list ≡ None
 unfolding first_bad
 no_bad g [] before good once = refl
@@ -60,7 +64,8 @@ no_bad g (m ∷ rest) before good once =
 
 -- ---- all inodes
 
-module _ (image : List ℕ) (o : Origin) (fs : Fs) (parts : ℕ → Held) (others : Held) (used : List Bool) (sizes : IsGeometry o.sizes) (sized_as : IsSizedAs o.sizes image)
+module _ (image : List ℕ) (o : Origin) (fs : Fs) (parts : ℕ → Held) (others : Held) (used : List Bool) (sizes : IsGeometry o.sizes)
+    (sized_as : IsSizedAs o.sizes image)
     (all : HoldsAllInodes o image fs parts others used) where
   abbrev pub inode : ℕ → List ℕ
   inode n = inode_of o.sizes image n
@@ -69,7 +74,8 @@ module _ (image : List ℕ) (o : Origin) (fs : Fs) (parts : ℕ → Held) (other
   is_used n = not (is_free (inode n))
 
   -- an inode without a node is free
-  zeros_free : (n : ℕ) → others (inode_place o.sizes n).block (inode_place o.sizes n).line ≡ Some (replicate 64 0) → is_free (inode n) ≡ true
+  zeros_free : (n : ℕ) → others (inode_place o.sizes n).block (inode_place o.sizes n).line ≡ Some (replicate 64 0)
+      → is_free (inode n) ≡ true
   zeros_free n there = ap (λ (x : List ℕ). is_free x) (held-inode o image others n (replicate 64 0) all.other_lines there)
 
   free_by : (n : ℕ) → 1 ≤ n → n ≤ inode_count o.sizes → fmap.get fs.nodes n ≡ None → is_free (inode n) ≡ true
@@ -100,16 +106,19 @@ module _ (image : List ℕ) (o : Origin) (fs : Fs) (parts : ℕ → Held) (other
     same-inode = held-inode o image (parts n) n holds.line (all.lines n) holds.there
 
     pub addresses : (k : ℕ) → k < 13 → address_of (inode n) k ≡ slice_index holds.body.addresses k
-    addresses k low = ap (λ (x : List ℕ). address_of x k) same-inode ∙ (shows_inode holds.line (Used holds.body) holds.spelled).addresses k low
+    addresses k low =
+        ap (λ (x : List ℕ). address_of x k) same-inode ∙ (shows_inode holds.line (Used holds.body) holds.spelled).addresses k low
 
     abbrev block : Reached → ℕ
     block r = r.block
 
-    spot-of : (c : ℕ) → 0 < met block c (reached o.sizes image (inode n)) → IsInTree o image (parts n) (all.lines n) (inode n) holds.body.addresses holds.stands.tree addresses c
+    spot-of : (c : ℕ) → 0 < met block c (reached o.sizes image (inode n))
+        → IsInTree o image (parts n) (all.lines n) (inode n) holds.body.addresses holds.stands.tree addresses c
     spot-of c some = in_tree o image (parts n) (all.lines n) (inode n) holds.body.addresses holds.stands.tree addresses c some
 
     pub holds-reached : (c : ℕ) → 0 < met block c (reached o.sizes image (inode n)) → HoldsBlock o (parts n) c
-    holds-reached c some = held_in_tree o image (parts n) (all.lines n) (inode n) holds.body.addresses holds.stands.tree addresses c (spot-of c some)
+    holds-reached c some =
+        held_in_tree o image (parts n) (all.lines n) (inode n) holds.body.addresses holds.stands.tree addresses c (spot-of c some)
 
     pub data-reached : (c : ℕ) → 0 < met block c (reached o.sizes image (inode n)) → IsDataBlock o.sizes c
     data-reached c some =
@@ -123,7 +132,8 @@ module _ (image : List ℕ) (o : Origin) (fs : Fs) (parts : ℕ → Held) (other
   met-of n c = ap (times c) (map_map (λ (r : Reached). record { inode = n; block = r.block }) number (reached o.sizes image (inode n)))
 
   -- a block that two inodes reach is held in two parts
-  one-inode : (c n m : ℕ) (a b : Node) → fmap.get fs.nodes n ≡ Some a → fmap.get fs.nodes m ≡ Some b → 0 < met number c (met_of o.sizes image n) → 0 < met number c (met_of o.sizes image m) → n ≡ m
+  one-inode : (c n m : ℕ) (a b : Node) → fmap.get fs.nodes n ≡ Some a → fmap.get fs.nodes m ≡ Some b
+      → 0 < met number c (met_of o.sizes image n) → 0 < met number c (met_of o.sizes image m) → n ≡ m
   one-inode c n m a b at bt one two =
       elim (cases_eq n m) [
         | inl same ↦ same

@@ -26,7 +26,8 @@ module _ (p q : ℕ → Bool) (wider : (i : ℕ) → p i ≡ true → q i ≡ tr
   counted true some = refl
   counted false some = absurd (omega (arith, some))
 
-  pub count_same : (n a x : ℕ) → count_by q (range_with_len a n) ≤ count_by p (range_with_len a n) → a ≤ x → x < a + n → q x ≡ true → p x ≡ true
+  pub count_same : (n a x : ℕ) → count_by q (range_with_len a n) ≤ count_by p (range_with_len a n) → a ≤ x → x < a + n → q x ≡ true
+      → p x ≡ true
   count_same zero a x few low high so = absurd (omega (arith, low, high))
   count_same (suc n) a x few low high so =
       let first = one_most a in

@@ -1,5 +1,6 @@
 -- What holds of each element of a list, and of each block that an image reaches: it stands at a spot of the held address tree.
-use Rattle.std.proofs.Common.{◌≡◌, ◌≢◌, ◌≤◌, ◌<◌, ◌+◌, ◌*◌, ◌^◌, ◌||◌, ◌++◌, ◌∷◌, [], ◌∙◌, ℕ, zero, suc, Bool, not, true, false, List, Some, None, ap, sym, refl, cond, find, filter, flat_map, length, arith}
+use Rattle.std.proofs.Common.{◌≡◌, ◌≢◌, ◌≤◌, ◌<◌, ◌+◌, ◌*◌, ◌^◌, ◌||◌, ◌++◌, ◌∷◌, [], ◌∙◌, ℕ, zero, suc, Bool, not, true, false, List, Some}
+use Rattle.std.proofs.Common.{None, ap, sym, refl, cond, find, filter, flat_map, length, arith}
 use Rattle.std.specs.List.{list_any, range_with_len}
 use Rattle.std.proofs.lemmas.Bool.{false≢true, ne_eqb}
 use Rattle.sv_form.specs.declared.geometry.Geometry.{Geometry}
@@ -11,7 +12,8 @@ use Rattle.sv_bmap.proofs.Paths.{child-hole}
 use Rattle.sv_check.specs.Walk.{Reached, number_in, reached_under}
 use Rattle.sv_check.proofs.BooleanTests.{or_true}
 use Rattle.sv_files.specs.ConverseLines.{HasLines}
-use Rattle.sv_files.proofs.HeldTree.{IsHeldBelow, IsWay, below_block, child-below, child-number, holds-first, is_filled, some_test, way-more, way-none}
+use Rattle.sv_files.proofs.HeldTree.{IsHeldBelow, IsWay, below_block, child-below, child-number, holds-first, is_filled, some_test}
+use Rattle.sv_files.proofs.HeldTree.{way-more, way-none}
 use Rattle.sv_files.proofs.RangeTests.{any_joined}
 
 -- ---- each element
@@ -29,11 +31,13 @@ each_append P [] ys a b = b
 each_append P (x ∷ xs) ys a b = (a.0, each_append P xs ys a.1 b)
 
 module _ {X : Type 0} (P : X → Type 0) (q : ℕ → Bool) (f : ℕ → List X) where
-  joined_step : (a : ℕ) (t : Bool) (rest : List ℕ) → (t ≡ true → Each P (f a)) → Each P (flat_map f rest) → Each P (flat_map f (cond t (a ∷ rest) rest))
+  joined_step : (a : ℕ) (t : Bool) (rest : List ℕ) → (t ≡ true → Each P (f a)) → Each P (flat_map f rest)
+      → Each P (flat_map f (cond t (a ∷ rest) rest))
   joined_step a false rest here later = later
   joined_step a true rest here later = each_append P (f a) (flat_map f rest) (here refl) later
 
-  pub each_joined : (n a : ℕ) → ((k : ℕ) → a ≤ k → k < a + n → q k ≡ true → Each P (f k)) → Each P (flat_map f (filter q (range_with_len a n)))
+  pub each_joined : (n a : ℕ) → ((k : ℕ) → a ≤ k → k < a + n → q k ≡ true → Each P (f k))
+      → Each P (flat_map f (filter q (range_with_len a n)))
   each_joined zero a each = tt
   each_joined (suc n) a each =
       joined_step a (q a) (filter q (range_with_len (a + 1) n)) (λ so. each a (omega arith) (omega arith) so)
@@ -52,7 +56,8 @@ module _ {X : Type 0} (P : X → Type 0) (test : X → Bool) where
     pub so : test at ≡ true
     pub has : P at
 
-  found_step : (x : X) (xs : List X) (t : Bool) → test x ≡ t → P x → (list_any test xs ≡ true → IsFound xs) → (t || list_any test xs) ≡ true → (find test (x ∷ xs) ≡ cond t (Some x) (find test xs)) → IsFound (x ∷ xs)
+  found_step : (x : X) (xs : List X) (t : Bool) → test x ≡ t → P x → (list_any test xs ≡ true → IsFound xs) → (t || list_any test xs) ≡ true
+      → (find test (x ∷ xs) ≡ cond t (Some x) (find test xs)) → IsFound (x ∷ xs)
   found_step x xs true is here later some same = record { at = x; is = same; so = is; has = here }
   found_step x xs false is here later some same = let f = later some in record { at = f.at; is = same ∙ f.is; so = f.so; has = f.has }
 
@@ -63,7 +68,8 @@ module _ {X : Type 0} (P : X → Type 0) (test : X → Bool) where
 pub none_found_in : {X : Type 0} (test : X → Bool) (xs : List X) → list_any test xs ≡ false → find test xs ≡ None
 none_found_in test [] e = refl
 none_found_in test (x ∷ xs) e = by_test (test x) refl e (λ more. none_found_in test xs more) where
-  by_test : (t : Bool) → test x ≡ t → (t || list_any test xs) ≡ false → (list_any test xs ≡ false → find test xs ≡ None) → cond (test x) (Some x) (find test xs) ≡ None
+  by_test : (t : Bool) → test x ≡ t → (t || list_any test xs) ≡ false → (list_any test xs ≡ false → find test xs ≡ None)
+      → cond (test x) (Some x) (find test xs) ≡ None
   by_test true is bad later = absurd (false≢true (sym bad))
   by_test false is none later = ap (λ (t : Bool). cond t (Some x) (find test xs)) is ∙ later none
 
@@ -117,7 +123,8 @@ module _ (o : Origin) (image : List ℕ) (h : Held) (lines : HasLines o.sizes im
     page_is = (let none = offset-none per height in omega (arith, none));
   }
 
-  wider : (height page b k : ℕ) → k < per → child h b k ≡ number b k → (r : Reached) → IsReachedAt height (page + k * per ^ height) (number b k) r → IsReachedAt (suc height) page b r
+  wider : (height page b k : ℕ) → k < per → child h b k ≡ number b k → (r : Reached)
+      → IsReachedAt height (page + k * per ^ height) (number b k) r → IsReachedAt (suc height) page b r
   wider height page b k low is r at = record {
     ks = k ∷ at.ks;
     way = way-more o image h lines height k at.ks low at.way;
@@ -127,15 +134,20 @@ module _ (o : Origin) (image : List ℕ) (h : Held) (lines : HasLines o.sizes im
     page_is = (let page_is = at.page_is in omega (arith, page_is));
   }
 
-  pub each_under : (height page b : ℕ) → b ≢ 0 → IsHeldBelow o image h lines height b → Each (IsReachedAt height page b) (reached_under g image height page b)
+  pub each_under : (height page b : ℕ) → b ≢ 0 → IsHeldBelow o image h lines height b
+      → Each (IsReachedAt height page b) (reached_under g image height page b)
   unfolding Rattle.sv_form.specs.AddressTree.reached_under
   each_under zero page b some below = (first_reached zero page b some, tt)
   each_under (suc height) page b some below = (
     first_reached (suc height) page b some,
     each_joined (IsReachedAt (suc height) page b) (is_filled o image h lines b) (blocks_of_child height page b) per 0
         (λ k least low so.
-        each_map (IsReachedAt height (page + k * per ^ height) (number b k)) (IsReachedAt (suc height) page b) (wider height page b k (omega (arith, low)) (child-number o image h lines b k (holds-first o image h lines (suc height) b some below) (omega (arith, low)) some)) (blocks_of_child height page b k)
-        (each_under height (page + k * per ^ height) (number b k) (some_test (number b k) so) (child-below o image h lines height b k some (omega (arith, low)) below))),
+        each_map (IsReachedAt height (page + k * per ^ height) (number b k)) (IsReachedAt (suc height) page b)
+        (wider height page b k (omega (arith, low))
+        (child-number o image h lines b k (holds-first o image h lines (suc height) b some below)
+        (omega (arith, low)) some)) (blocks_of_child height page b k)
+        (each_under height (page + k * per ^ height) (number b k) (some_test (number b k) so)
+        (child-below o image h lines height b k some (omega (arith, low)) below))),
   )
 
   -- ---- and back: what stands at the end of a whole way is reached
@@ -147,8 +159,10 @@ module _ (o : Origin) (image : List ℕ) (h : Held) (lines : HasLines o.sizes im
   pub hole-down : (b : ℕ) (ks : List ℕ) → down h b ks ≢ 0 → b ≢ 0
   hole-down b ks some none = some (ap (λ (x : ℕ). down h x ks) none ∙ down-hole ks)
 
-  pub there_under : (height page b : ℕ) (ks : List ℕ) → length ks ≡ height → IsWay o image h lines height ks → down h b ks ≢ 0 → IsHeldBelow o image h lines height b → (test : Reached → Bool)
-      → ((r : Reached) → r.height ≡ 0 → r.page ≡ page + offset per height ks → r.block ≡ down h b ks → test r ≡ true) → list_any test (reached_under g image height page b) ≡ true
+  pub there_under : (height page b : ℕ) (ks : List ℕ) → length ks ≡ height → IsWay o image h lines height ks → down h b ks ≢ 0
+      → IsHeldBelow o image h lines height b → (test : Reached → Bool)
+      → ((r : Reached) → r.height ≡ 0 → r.page ≡ page + offset per height ks → r.block ≡ down h b ks → test r ≡ true)
+      → list_any test (reached_under g image height page b) ≡ true
   unfolding Rattle.sv_form.specs.AddressTree.reached_under
   there_under zero page b [] size way some below test passes =
       ap (λ (t : Bool). t || false) (passes (record { height = 0; page = page; block = b }) refl (omega arith) refl)
@@ -157,36 +171,45 @@ module _ (o : Origin) (image : List ℕ) (h : Held) (lines : HasLines o.sizes im
   there_under (suc height) page b (k ∷ ks) size way some below test passes =
       let low : k < per = way.places 0 (omega arith) in
       let here : b ≢ 0 = hole-down b (k ∷ ks) some in
-      let is : child h b k ≡ number b k = child-number o image h lines b k (holds-first o image h lines (suc height) b here below) low here in
+      let is : child h b k ≡ number b k =
+      child-number o image h lines b k (holds-first o image h lines (suc height) b here below) low here in
       let same : down h (child h b k) ks ≡ down h (number b k) ks = ap (λ (x : ℕ). down h x ks) is in
       let on : down h (number b k) ks ≢ 0 = λ none. some (same ∙ none) in
       let filled_is : is_filled o image h lines b k ≡ true = ap not (ne_eqb (number b k) 0 (hole-down (number b k) ks on)) in
       let rest : list_any test (blocks_of_child height page b k) ≡ true =
-      there_under height (page + k * per ^ height) (number b k) ks (omega (arith, size)) (way-rest height k ks way) on (child-below o image h lines height b k here low below) test
+      there_under height (page + k * per ^ height) (number b k) ks (omega (arith, size)) (way-rest height k ks way) on
+      (child-below o image h lines height b k here low below) test
       (λ r flat page_is block_is. passes r flat (omega (arith, page_is)) (block_is ∙ sym same)) in
       ap (λ (t : Bool). test (record { height = suc height; page = page; block = b }) || t)
-      (any_joined (is_filled o image h lines b) (blocks_of_child height page b) test per 0 k (omega arith) (omega (arith, low)) filled_is rest)
+      (any_joined (is_filled o image h lines b) (blocks_of_child height page b) test per 0 k (omega arith)
+      (omega (arith, low)) filled_is rest)
       ∙ or_true (test (record { height = suc height; page = page; block = b }))
 
   -- and so is what stands at the end of any way
-  pub met_under : (height page b : ℕ) (ks : List ℕ) → IsWay o image h lines height ks → down h b ks ≢ 0 → IsHeldBelow o image h lines height b → (test : Reached → Bool)
+  pub met_under : (height page b : ℕ) (ks : List ℕ) → IsWay o image h lines height ks → down h b ks ≢ 0
+      → IsHeldBelow o image h lines height b → (test : Reached → Bool)
       → ((r : Reached) → r.block ≡ down h b ks → test r ≡ true) → list_any test (reached_under g image height page b) ≡ true
   unfolding Rattle.sv_form.specs.AddressTree.reached_under
-  met_under zero page b [] way some below test passes = ap (λ (t : Bool). t || false) (passes (record { height = 0; page = page; block = b }) refl)
+  met_under zero page b [] way some below test passes =
+      ap (λ (t : Bool). t || false) (passes (record { height = 0; page = page; block = b }) refl)
   met_under zero page b (k ∷ ks) way some below test passes = (let deep = way.deep in absurd (omega (arith, deep)))
   met_under (suc height) page b [] way some below test passes =
-      ap (λ (t : Bool). t || list_any test (flat_map (blocks_of_child height page b) (filter (is_filled o image h lines b) (range_with_len 0 per))))
+      ap (λ (t : Bool). t || list_any test
+      (flat_map (blocks_of_child height page b) (filter (is_filled o image h lines b) (range_with_len 0 per))))
       (passes (record { height = suc height; page = page; block = b }) refl)
   met_under (suc height) page b (k ∷ ks) way some below test passes =
       let low : k < per = way.places 0 (omega arith) in
       let here : b ≢ 0 = hole-down b (k ∷ ks) some in
-      let is : child h b k ≡ number b k = child-number o image h lines b k (holds-first o image h lines (suc height) b here below) low here in
+      let is : child h b k ≡ number b k =
+      child-number o image h lines b k (holds-first o image h lines (suc height) b here below) low here in
       let same : down h (child h b k) ks ≡ down h (number b k) ks = ap (λ (x : ℕ). down h x ks) is in
       let on : down h (number b k) ks ≢ 0 = λ none. some (same ∙ none) in
       let filled_is : is_filled o image h lines b k ≡ true = ap not (ne_eqb (number b k) 0 (hole-down (number b k) ks on)) in
       let rest : list_any test (blocks_of_child height page b k) ≡ true =
-      met_under height (page + k * per ^ height) (number b k) ks (way-rest height k ks way) on (child-below o image h lines height b k here low below) test
+      met_under height (page + k * per ^ height) (number b k) ks (way-rest height k ks way) on
+      (child-below o image h lines height b k here low below) test
       (λ r block_is. passes r (block_is ∙ sym same)) in
       ap (λ (t : Bool). test (record { height = suc height; page = page; block = b }) || t)
-      (any_joined (is_filled o image h lines b) (blocks_of_child height page b) test per 0 k (omega arith) (omega (arith, low)) filled_is rest)
+      (any_joined (is_filled o image h lines b) (blocks_of_child height page b) test per 0 k (omega arith)
+      (omega (arith, low)) filled_is rest)
       ∙ or_true (test (record { height = suc height; page = page; block = b }))

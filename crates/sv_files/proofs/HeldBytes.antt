@@ -1,5 +1,6 @@
 -- The bytes of held lines are those of the image.
-use Rattle.std.proofs.Common.{◌≡◌, ◌≤◌, ◌<◌, ◌+◌, ◌-◌, ◌*◌, ◌/◌, ◌%◌, ◌∙◌, ℕ, List, [], Option, Some, None, IsSome, is_some, ap, sym, refl, get_or, drop, length, unwrap_or, slice_index, arith}
+use Rattle.std.proofs.Common.{◌≡◌, ◌≤◌, ◌<◌, ◌+◌, ◌-◌, ◌*◌, ◌/◌, ◌%◌, ◌∙◌, ℕ, List, [], Option, Some, None, IsSome, is_some, ap, sym, refl}
+use Rattle.std.proofs.Common.{get_or, drop, length, unwrap_or, slice_index, arith}
 use Rattle.std.specs.List.{slice_range}
 use Rattle.std.proofs.lemmas.List.{ext_get_or, get_or-drop, get_or-take, length-drop, length-take}
 use Rattle.std.proofs.lemmas.List.FromFn.{get_or-map-range_with_len, length-map-range_with_len}
@@ -23,10 +24,12 @@ same_line g image p =
     ap (λ (x : ℕ). slice_range (block_of g image p.block) x (x + 64)) turned
 
 -- a byte of a block is a byte of the image
-pub block-byte : (g : Geometry) (image : List ℕ) (b k : ℕ) → k < g.block_size → get_or (block_of g image b) k 0 ≡ get_or image (b * g.block_size + k) 0
+pub block-byte : (g : Geometry) (image : List ℕ) (b k : ℕ) → k < g.block_size
+    → get_or (block_of g image b) k 0 ≡ get_or image (b * g.block_size + k) 0
 unfolding block_of
 block-byte g image b k below =
-    get_or-take (b * g.block_size + g.block_size - b * g.block_size) (drop (b * g.block_size) image) k 0 (omega (arith, below)) ∙ get_or-drop (b * g.block_size) image k 0
+    get_or-take (b * g.block_size + g.block_size - b * g.block_size) (drop (b * g.block_size) image) k 0 (omega (arith, below))
+    ∙ get_or-drop (b * g.block_size) image k 0
 
 super-byte : (image : List ℕ) (k : ℕ) → k < 512 → get_or (superblock_of image) k 0 ≡ get_or image (512 + k) 0
 unfolding superblock_of
@@ -37,7 +40,8 @@ unfolding superblock_of
 super-long image long = omega (arith, long, length-take (1024 - 512) (drop 512 image), length-drop 512 image)
 
 module _ (g : Geometry) (image : List ℕ) (h : Held) (lines : HasLines g image h) where
-  byte_by : (b k : ℕ) (o : Option (List ℕ)) → h b (k / 64) ≡ o → IsSome o → slice_index (unwrap_or o []) (k % 64) ≡ get_or (block_of g image b) k 0
+  byte_by : (b k : ℕ) (o : Option (List ℕ)) → h b (k / 64) ≡ o → IsSome o
+      → slice_index (unwrap_or o []) (k % 64) ≡ get_or (block_of g image b) k 0
   byte_by b k None is some = let bad : ⊥ = cc some in absurd bad
   byte_by b k (Some line) is some =
       ap (λ (x : List ℕ). get_or x (k % 64) 0) (lines.at b (k / 64) line is) ∙ sym (get_or-by_line (block_of g image b) k)
@@ -46,7 +50,8 @@ module _ (g : Geometry) (image : List ℕ) (h : Held) (lines : HasLines g image 
   pub held-byte : (b k : ℕ) → IsSome (h b (k / 64)) → byte_of (h b) k ≡ get_or (block_of g image b) k 0
   held-byte b k some = byte_by b k (h b (k / 64)) refl some
 
-module _ (o : Origin) (image : List ℕ) (h : Held) (sizes : IsGeometry o.sizes) (long : length image ≡ o.sizes.blocks * o.sizes.block_size) (lines : HasLines o.sizes image h) (super : HoldsSuper o h) where
+module _ (o : Origin) (image : List ℕ) (h : Held) (sizes : IsGeometry o.sizes) (long : length image ≡ o.sizes.blocks * o.sizes.block_size)
+    (lines : HasLines o.sizes image h) (super : HoldsSuper o h) where
   abbrev g : Geometry
   g = o.sizes
 

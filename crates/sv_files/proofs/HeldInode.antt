@@ -9,7 +9,8 @@ use Rattle.sv_files.specs.ConverseLines.{HasLines}
 use Rattle.sv_files.proofs.HeldTree.{IsHeldBelow, IsWay, at_end, once_under, some_test}
 use Rattle.sv_files.proofs.JoinedTimes.{few_in, met, one_in}
 
-module _ (o : Origin) (image : List ℕ) (h : Held) (lines : HasLines o.sizes image h) (inode a : List ℕ) (tree : IsTree o h a) (same : (k : ℕ) → k < 13 → address_of inode k ≡ slice_index a k) where
+module _ (o : Origin) (image : List ℕ) (h : Held) (lines : HasLines o.sizes image h) (inode a : List ℕ) (tree : IsTree o h a)
+    (same : (k : ℕ) → k < 13 → address_of inode k ≡ slice_index a k) where
   abbrev block : Reached → ℕ
   block r = r.block
 
@@ -41,7 +42,9 @@ module _ (o : Origin) (image : List ℕ) (h : Held) (lines : HasLines o.sizes im
 
   from-spot : (k c : ℕ) → k < 13 → has k ≡ true → 0 < met block c (from k) → IsInTree c
   from-spot k c low so there =
-      let end = at_end o image h lines (height_of k) (first_page o.sizes k) (address_of inode k) c (some_test (address_of inode k) so) (below k low) there in
+      let end =
+      at_end o image h lines (height_of k) (first_page o.sizes k) (address_of inode k) c (some_test (address_of inode k) so)
+      (below k low) there in
       record {
         slot = k;
         ks = end.ks;
@@ -59,17 +62,23 @@ module _ (o : Origin) (image : List ℕ) (h : Held) (lines : HasLines o.sizes im
 
   one-slot : (c j k : ℕ) → j < 13 → k < 13 → has j ≡ true → has k ≡ true → 0 < met block c (from j) → 0 < met block c (from k) → j ≡ k
   one-slot c j k jl kl js ks jm km =
-      let one = at_end o image h lines (height_of j) (first_page o.sizes j) (address_of inode j) c (some_test (address_of inode j) js) (below j jl) jm in
-      let two = at_end o image h lines (height_of k) (first_page o.sizes k) (address_of inode k) c (some_test (address_of inode k) ks) (below k kl) km in
+      let one =
+      at_end o image h lines (height_of j) (first_page o.sizes j) (address_of inode j) c (some_test (address_of inode j) js)
+      (below j jl) jm in
+      let two =
+      at_end o image h lines (height_of k) (first_page o.sizes k) (address_of inode k) c (some_test (address_of inode k) ks)
+      (below k kl) km in
       let first : block_at h a j one.ks ≡ c = ap (λ (x : ℕ). down h x one.ks) (sym (same j jl)) ∙ one.is in
       let second : block_at h a k two.ks ≡ c = ap (λ (x : ℕ). down h x two.ks) (sym (same k kl)) ∙ two.is in
-      (tree.once j one.ks k two.ks (way_spot j one.ks jl one.way) (way_spot k two.ks kl two.way) (λ none. one.some (sym first ∙ none)) (first ∙ sym second)).0
+      (tree.once j one.ks k two.ks (way_spot j one.ks jl one.way) (way_spot k two.ks kl two.way) (λ none. one.some (sym first ∙ none))
+      (first ∙ sym second)).0
 
   pub once_in_tree : (c : ℕ) → met block c (reached o.sizes image inode) ≤ 1
   unfolding Rattle.sv_form.specs.AddressTree.reached
   once_in_tree c =
       few_in block c has from 13 0
-      (λ k low high so. once_under o image h lines (height_of k) (first_page o.sizes k) (address_of inode k) c (some_test (address_of inode k) so) (below k (omega (arith, high))))
+      (λ k low high so. once_under o image h lines (height_of k) (first_page o.sizes k) (address_of inode k) c
+      (some_test (address_of inode k) so) (below k (omega (arith, high))))
       (λ j k jl jh kl kh js ks jm km. one-slot c j k (omega (arith, jh)) (omega (arith, kh)) js ks jm km)
 
   pub held_in_tree : (c : ℕ) → IsInTree c → HoldsBlock o h c

@@ -1,5 +1,6 @@
 -- The pages that an inode of an image reaches are those of the node for which it stands.
-use Rattle.std.proofs.Common.{◌≡◌, ◌≢◌, ◌≤◌, ◌<◌, ◌+◌, ◌*◌, ◌/◌, ◌%◌, ◌==◌, ◌∷◌, ◌⊎◌, ◌∙◌, ℕ, zero, suc, Bool, not, true, false, List, Option, Some, None, inl, inr, ap, sym, refl, subst, cond, filter, get_or, length, slice_index, arith}
+use Rattle.std.proofs.Common.{◌≡◌, ◌≢◌, ◌≤◌, ◌<◌, ◌+◌, ◌*◌, ◌/◌, ◌%◌, ◌==◌, ◌∷◌, ◌⊎◌, ◌∙◌, ℕ, zero, suc, Bool, not, true, false, List}
+use Rattle.std.proofs.Common.{Option, Some, None, inl, inr, ap, sym, refl, subst, cond, filter, get_or, length, slice_index, arith}
 use Rattle.std.specs.List.{list_any, range_with_len}
 use Rattle.std.specs.FinMap as fmap
 use Rattle.std.proofs.lemmas.Bool.{cases_eq, cases_lt, false≢true, ne_eqb}
@@ -42,11 +43,15 @@ some_filled k zero first q so low high = absurd (omega (arith, low, high))
 some_filled k (suc n) first q so low high =
     elim (cases_eq first k) [
       | inl is ↦ first_filled (q first) (ap q is ∙ so) first (filter q (range_with_len (first + 1) n))
-      | inr other ↦ more_filled (q first) first (filter q (range_with_len (first + 1) n)) (some_filled k n (first + 1) q so (omega (arith, low, other)) (omega (arith, high)))
+      | inr other ↦
+          more_filled (q first) first (filter q (range_with_len (first + 1) n))
+          (some_filled k n (first + 1) q so (omega (arith, low, other)) (omega (arith, high)))
     ]
 
-module _ (o : Origin) (image : List ℕ) (h : Held) (lines : HasLines o.sizes image h) (inode : List ℕ) (body : InodeBody) (node : Node) (stands : StandsFor o h body node)
-    (same : (k : ℕ) → k < 13 → address_of inode k ≡ slice_index body.addresses k) (sizes : IsGeometry o.sizes) (long : length image ≡ o.sizes.blocks * o.sizes.block_size) where
+module _ (o : Origin) (image : List ℕ) (h : Held) (lines : HasLines o.sizes image h) (inode : List ℕ) (body : InodeBody) (node : Node)
+    (stands : StandsFor o h body node)
+    (same : (k : ℕ) → k < 13 → address_of inode k ≡ slice_index body.addresses k) (sizes : IsGeometry o.sizes)
+    (long : length image ≡ o.sizes.blocks * o.sizes.block_size) where
   abbrev g : Geometry
   g = o.sizes
 
@@ -70,8 +75,10 @@ module _ (o : Origin) (image : List ℕ) (h : Held) (lines : HasLines o.sizes im
   each_from =
       each_joined IsFrom has from 13 0
       (λ k least low so.
-      each_map (IsReachedAt o image h lines (height_of k) (first_page g k) (address_of inode k)) IsFrom (λ r at. record { slot = k; low = omega (arith, low); at = at }) (from k)
-      (each_under o image h lines (height_of k) (first_page g k) (address_of inode k) (some_test (address_of inode k) so) (below o image h lines inode a stands.tree same k (omega (arith, low)))))
+      each_map (IsReachedAt o image h lines (height_of k) (first_page g k) (address_of inode k)) IsFrom
+      (λ r at. record { slot = k; low = omega (arith, low); at = at }) (from k)
+      (each_under o image h lines (height_of k) (first_page g k) (address_of inode k) (some_test (address_of inode k) so)
+      (below o image h lines inode a stands.tree same k (omega (arith, low)))))
 
   module _ (r : Reached) (f : IsFrom r) where
     spot-is : block_at h a f.slot f.at.ks ≡ r.block
@@ -85,8 +92,10 @@ module _ (o : Origin) (image : List ℕ) (h : Held) (lines : HasLines o.sizes im
     filled-number h0 =
         let left = f.at.left in
         let some = stands.no_empty.some f.slot f.at.ks spot (omega (arith, left, h0)) (λ none. f.at.some (sym spot-is ∙ none)) in
-        let held = subst (λ (b : ℕ). HoldsBlock o h b) spot-is (stands.tree.whole f.slot f.at.ks spot (λ none. f.at.some (sym spot-is ∙ none))) in
-        (some.0, (some.1.0, λ none. some.1.1 (ap (λ (b : ℕ). child h b some.0) spot-is ∙ child-number o image h lines r.block some.0 held some.1.0 f.at.some ∙ none)))
+        let held =
+        subst (λ (b : ℕ). HoldsBlock o h b) spot-is (stands.tree.whole f.slot f.at.ks spot (λ none. f.at.some (sym spot-is ∙ none))) in
+        let number-is = ap (λ (b : ℕ). child h b some.0) spot-is ∙ child-number o image h lines r.block some.0 held some.1.0 f.at.some in
+        (some.0, (some.1.0, λ none. some.1.1 (number-is ∙ none)))
 
     -- a page is one of the node's
     pub record IsPageIn : Type 0 where
@@ -112,7 +121,8 @@ module _ (o : Origin) (image : List ℕ) (h : Held) (lines : HasLines o.sizes im
         omega (arith, low, is, at)
 
     pub inside-from : r.block < g.blocks
-    inside-from = subst (λ (b : ℕ). b < g.blocks) spot-is (stands.data_blocks.at f.slot f.at.ks spot (λ none. f.at.some (sym spot-is ∙ none))).most
+    inside-from =
+        subst (λ (b : ℕ). b < g.blocks) spot-is (stands.data_blocks.at f.slot f.at.ks spot (λ none. f.at.some (sym spot-is ∙ none))).most
 
     shown-by : (bytes : List ℕ) → IsHeldPage g h r.block bytes → block_of g image r.block ≡ bytes
     shown-by bytes is =
@@ -120,7 +130,8 @@ module _ (o : Origin) (image : List ℕ) (h : Held) (lines : HasLines o.sizes im
         ext_get_or 0 (block_of g image r.block) bytes (size ∙ sym is.size)
         (λ k low.
         get_or-by_line (block_of g image r.block) k
-        ∙ ap (λ (l : List ℕ). get_or l (k % 64) 0) (sym (lines.at r.block (k / 64) (line_of bytes (k / 64)) (is.lines (k / 64) (omega (arith, low, size)))))
+        ∙ ap (λ (l : List ℕ). get_or l (k % 64) 0)
+        (sym (lines.at r.block (k / 64) (line_of bytes (k / 64)) (is.lines (k / 64) (omega (arith, low, size)))))
         ∙ sym (get_or-by_line bytes k))
 
     page_by : (p : Option (List ℕ)) → fmap.get node.pages r.page ≡ p → IsPageOf g h r.block p → IsPageIn
@@ -129,12 +140,15 @@ module _ (o : Origin) (image : List ℕ) (h : Held) (lines : HasLines o.sizes im
 
     pub page-in : r.height ≡ 0 → IsPageIn
     page-in flat =
-        page_by (fmap.get node.pages r.page) refl (subst (λ (b : ℕ). IsPageOf g h b (fmap.get node.pages r.page)) (page-here flat) (stands.pages.within r.page (page-low flat)))
+        page_by (fmap.get node.pages r.page) refl
+        (subst (λ (b : ℕ). IsPageOf g h b (fmap.get node.pages r.page)) (page-here flat) (stands.pages.within r.page (page-low flat)))
 
     pub not-empty : r.height ≢ 0 → (length (filled g (block_of g image r.block)) == 0) ≡ false
     not-empty high =
         let k = filled-number high in
-        let some = some_filled k.0 (block_numbers g) 0 (λ j. not (number_in (block_of g image r.block) j == 0)) (ap not (ne_eqb (number_in (block_of g image r.block) k.0) 0 k.1.1)) (omega arith) (let low = k.1.0 in omega (arith, low)) in
+        let some =
+        some_filled k.0 (block_numbers g) 0 (λ j. not (number_in (block_of g image r.block) j == 0))
+        (ap not (ne_eqb (number_in (block_of g image r.block) k.0) 0 k.1.1)) (omega arith) (let low = k.1.0 in omega (arith, low)) in
         ne_eqb (length (filled g (block_of g image r.block))) 0 (λ none. omega (arith, some, none))
 
   -- ---- and back: each page of the node is reached
@@ -179,16 +193,20 @@ module _ (o : Origin) (image : List ℕ) (h : Held) (lines : HasLines o.sizes im
           let q = spot_path g (slot_of p) (places_of p) low-slot size-of-path path-way.places in
           sym q.page_is ∙ same-page g q.path p q.is is q.slot_is q.places_is ∙ page_is
 
-      pub there_by : (test : Reached → Bool) → ((r : Reached) → r.height ≡ 0 → r.page ≡ k → test r ≡ true) → list_any test (reached g image inode) ≡ true
+      pub there_by : (test : Reached → Bool) → ((r : Reached) → r.height ≡ 0 → r.page ≡ k → test r ≡ true)
+          → list_any test (reached g image inode) ≡ true
       unfolding Rattle.sv_form.specs.AddressTree.reached
       there_by test passes =
           any_joined has from test 13 0 (slot_of p) (omega arith) (let low = low-slot in omega (arith, low))
-          (ap not (ne_eqb (address_of inode (slot_of p)) 0 (hole-down o image h lines (address_of inode (slot_of p)) (places_of p) down-some)))
-          (there_under o image h lines (height_of (slot_of p)) (first_page g (slot_of p)) (address_of inode (slot_of p)) (places_of p) size-of-path path-way down-some
+          (ap not (ne_eqb (address_of inode (slot_of p)) 0
+          (hole-down o image h lines (address_of inode (slot_of p)) (places_of p) down-some)))
+          (there_under o image h lines (height_of (slot_of p)) (first_page g (slot_of p)) (address_of inode (slot_of p))
+          (places_of p) size-of-path path-way down-some
           (below o image h lines inode a stands.tree same (slot_of p) low-slot) test
           (λ r flat page_at block_at_. passes r flat (page_at ∙ page-of-path)))
 
-    pub there_from : (test : Reached → Bool) → ((r : Reached) → r.height ≡ 0 → r.page ≡ k → test r ≡ true) → list_any test (reached g image inode) ≡ true
+    pub there_from : (test : Reached → Bool) → ((r : Reached) → r.height ≡ 0 → r.page ≡ k → test r ≡ true)
+        → list_any test (reached g image inode) ≡ true
     there_from test passes =
         let p = has_path g k some_numbers low-page in
         there_by p.0 p.1.0 p.1.1 test passes

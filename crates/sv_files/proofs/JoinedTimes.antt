@@ -1,5 +1,6 @@
 -- How often a block stands in joined lists, one for each number of a range that passes a test.
-use Rattle.std.proofs.Common.{◌≡◌, ◌≤◌, ◌<◌, ◌+◌, ◌++◌, ◌∷◌, ◌∙◌, ℕ, zero, suc, Bool, true, false, List, inl, inr, ap, refl, cond, map, filter, flat_map, arith}
+use Rattle.std.proofs.Common.{◌≡◌, ◌≤◌, ◌<◌, ◌+◌, ◌++◌, ◌∷◌, ◌∙◌, ℕ, zero, suc, Bool, true, false, List, inl, inr, ap, refl, cond, map}
+use Rattle.std.proofs.Common.{filter, flat_map, arith}
 use Rattle.std.specs.List.{range_with_len}
 use Rattle.std.proofs.lemmas.Bool.{cases_lt}
 use Rattle.std.proofs.lemmas.List.{map-append}
@@ -24,16 +25,25 @@ module _ {X : Type 0} (block : X → ℕ) (c : ℕ) where
       pub some : 0 < met (f at)
 
     in_wider : (a n : ℕ) → IsIn (a + 1) n → IsIn a (suc n)
-    in_wider a n i = record { at = i.at; low = (let low = i.low in omega (arith, low)); high = (let high = i.high in omega (arith, high)); so = i.so; some = i.some }
+    in_wider a n i =
+        record {
+          at = i.at;
+          low = (let low = i.low in omega (arith, low));
+          high = (let high = i.high in omega (arith, high));
+          so = i.so;
+          some = i.some;
+        }
 
-    in_first : (a n : ℕ) (rest : List ℕ) → q a ≡ true → 0 < met (flat_map f (a ∷ rest)) → (0 < met (flat_map f rest) → IsIn (a + 1) n) → IsIn a (suc n)
+    in_first : (a n : ℕ) (rest : List ℕ) → q a ≡ true → 0 < met (flat_map f (a ∷ rest)) → (0 < met (flat_map f rest) → IsIn (a + 1) n)
+        → IsIn a (suc n)
     in_first a n rest so some later =
         elim (cases_lt 0 (met (f a))) [
           | inl here ↦ record { at = a; low = omega arith; high = omega arith; so = so; some = here }
           | inr none ↦ in_wider a n (later (omega (arith, some, none, met-append (f a) (flat_map f rest))))
         ]
 
-    in_step : (a n : ℕ) (t : Bool) (rest : List ℕ) → q a ≡ t → 0 < met (flat_map f (cond t (a ∷ rest) rest)) → (0 < met (flat_map f rest) → IsIn (a + 1) n) → IsIn a (suc n)
+    in_step : (a n : ℕ) (t : Bool) (rest : List ℕ) → q a ≡ t → 0 < met (flat_map f (cond t (a ∷ rest) rest))
+        → (0 < met (flat_map f rest) → IsIn (a + 1) n) → IsIn a (suc n)
     in_step a n false rest is some later = in_wider a n (later some)
     in_step a n true rest is some later = in_first a n rest is some later
 
@@ -57,7 +67,8 @@ module _ {X : Type 0} (block : X → ℕ) (c : ℕ) where
                 let i = one_in n (a + 1) there in
                 let low = i.low in
                 let high = i.high in
-                let same : a ≡ i.at = once a i.at (omega arith) (omega arith) (omega (arith, low)) (omega (arith, high)) is i.so here i.some in
+                let same : a ≡ i.at =
+                once a i.at (omega arith) (omega arith) (omega (arith, low)) (omega (arith, high)) is i.so here i.some in
                 absurd (omega (arith, same, low))
           ]
         ]
@@ -70,4 +81,5 @@ module _ {X : Type 0} (block : X → ℕ) (c : ℕ) where
     few_in (suc n) a each once =
         few_step a n (q a) refl each once
         (few_in n (a + 1) (λ k low high so. each k (omega (arith, low)) (omega (arith, high)) so)
-        (λ j k jl jh kl kh jq kq js ks. once j k (omega (arith, jl)) (omega (arith, jh)) (omega (arith, kl)) (omega (arith, kh)) jq kq js ks))
+        (λ j k jl jh kl kh jq kq js ks. once j k (omega (arith, jl)) (omega (arith, jh)) (omega (arith, kl))
+        (omega (arith, kh)) jq kq js ks))

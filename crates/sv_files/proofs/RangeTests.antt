@@ -1,5 +1,6 @@
 -- Tests that hold, or fail, at each number of a range.
-use Rattle.std.proofs.Common.{◌≡◌, ◌≢◌, ◌≤◌, ◌<◌, ◌+◌, ◌==◌, ◌&&◌, ◌||◌, ◌++◌, ◌∷◌, [], ◌⊎◌, ◌∙◌, ℕ, zero, suc, Bool, not, true, false, List, Some, None, inl, inr, ap, sym, refl, cond, map, filter, find, flat_map, arith}
+use Rattle.std.proofs.Common.{◌≡◌, ◌≢◌, ◌≤◌, ◌<◌, ◌+◌, ◌==◌, ◌&&◌, ◌||◌, ◌++◌, ◌∷◌, [], ◌⊎◌, ◌∙◌, ℕ, zero, suc, Bool, not, true, false}
+use Rattle.std.proofs.Common.{List, Some, None, inl, inr, ap, sym, refl, cond, map, filter, find, flat_map, arith}
 use Rattle.std.specs.List.{list_all, list_any, range_with_len}
 use Rattle.std.specs.Cmp.Lexicographic.{same_text, other_text}
 use Rattle.std.proofs.lemmas.Bool.{cases_eq, false≢true}
@@ -10,7 +11,8 @@ use Rattle.sv_check.proofs.BooleanTests.{or_true}
 -- ---- nothing is found where each number that passes one test fails the other
 
 module _ (p q : ℕ → Bool) where
-  none_step : (a : ℕ) (t u : Bool) (rest : List ℕ) → p a ≡ u → (t ≡ true → u ≡ false) → find p rest ≡ None → find p (cond t (a ∷ rest) rest) ≡ None
+  none_step : (a : ℕ) (t u : Bool) (rest : List ℕ) → p a ≡ u → (t ≡ true → u ≡ false) → find p rest ≡ None
+      → find p (cond t (a ∷ rest) rest) ≡ None
   none_step a false u rest is fails none = none
   none_step a true u rest is fails none = ap (λ (b : Bool). cond b (Some a) (find p rest)) (is ∙ fails refl) ∙ none
 
@@ -68,28 +70,36 @@ module _ (f : ℕ → List ℕ) where
   some_number : (x : ℕ) → not (x == 0) ≡ true → x ≢ 0
   some_number x e = grind (arith, e)
 
-  other_step : (x : List ℕ) (a : ℕ) (t : Bool) (rest : List (List ℕ)) → (t ≡ true → x ≢ name_in (f a)) → list_any (same_bytes x) (map name_in rest) ≡ false
+  other_step : (x : List ℕ) (a : ℕ) (t : Bool) (rest : List (List ℕ)) → (t ≡ true → x ≢ name_in (f a))
+      → list_any (same_bytes x) (map name_in rest) ≡ false
       → list_any (same_bytes x) (map name_in (cond t (f a ∷ rest) rest)) ≡ false
   other_step x a false rest other none = none
-  other_step x a true rest other none = ap (λ (t : Bool). t || list_any (same_bytes x) (map name_in rest)) (differ x (name_in (f a)) (other refl)) ∙ none
+  other_step x a true rest other none =
+      ap (λ (t : Bool). t || list_any (same_bytes x) (map name_in rest)) (differ x (name_in (f a)) (other refl)) ∙ none
 
-  nowhere : (x : List ℕ) (n a : ℕ) → ((k : ℕ) → a ≤ k → k < a + n → named_by (f k) ≢ 0 → x ≢ name_in (f k)) → list_any (same_bytes x) (names_from a n) ≡ false
+  nowhere : (x : List ℕ) (n a : ℕ) → ((k : ℕ) → a ≤ k → k < a + n → named_by (f k) ≢ 0 → x ≢ name_in (f k))
+      → list_any (same_bytes x) (names_from a n) ≡ false
   nowhere x zero a other = refl
   nowhere x (suc n) a other =
-      other_step x a (named (f a)) (filter named (map f (range_with_len (a + 1) n))) (λ so. other a (omega arith) (omega arith) (some_number (named_by (f a)) so))
+      other_step x a (named (f a)) (filter named (map f (range_with_len (a + 1) n)))
+      (λ so. other a (omega arith) (omega arith) (some_number (named_by (f a)) so))
       (nowhere x n (a + 1) (λ k low high so. other k (omega (arith, low)) (omega (arith, high)) so))
 
-  once_step : (a n : ℕ) (t : Bool) → (t ≡ true → list_any (same_bytes (name_in (f a))) (names_from (a + 1) n) ≡ false) → has_twins (names_from (a + 1) n) ≡ false
-      → has_twins (map name_in (cond t (f a ∷ filter named (map f (range_with_len (a + 1) n))) (filter named (map f (range_with_len (a + 1) n))))) ≡ false
+  once_step : (a n : ℕ) (t : Bool) → (t ≡ true → list_any (same_bytes (name_in (f a))) (names_from (a + 1) n) ≡ false)
+      → has_twins (names_from (a + 1) n) ≡ false
+      → has_twins (map name_in (cond t (f a ∷ filter named (map f (range_with_len (a + 1) n)))
+      (filter named (map f (range_with_len (a + 1) n))))) ≡ false
   once_step a n false first rest = rest
   once_step a n true first rest = ap (λ (t : Bool). t || has_twins (names_from (a + 1) n)) (first refl) ∙ rest
 
   -- no two are the same where each two with a number have names that differ
-  pub no_two : (n a : ℕ) → ((j k : ℕ) → a ≤ j → j < k → k < a + n → named_by (f j) ≢ 0 → named_by (f k) ≢ 0 → name_in (f j) ≢ name_in (f k)) → has_twins (names_from a n) ≡ false
+  pub no_two : (n a : ℕ) → ((j k : ℕ) → a ≤ j → j < k → k < a + n → named_by (f j) ≢ 0 → named_by (f k) ≢ 0 → name_in (f j) ≢ name_in (f k))
+      → has_twins (names_from a n) ≡ false
   no_two zero a other = refl
   no_two (suc n) a other =
       once_step a n (named (f a))
-      (λ so. nowhere (name_in (f a)) n (a + 1) (λ k low high to. other a k (omega arith) (omega (arith, low)) (omega (arith, high)) (some_number (named_by (f a)) so) to))
+      (λ so. nowhere (name_in (f a)) n (a + 1)
+      (λ k low high to. other a k (omega arith) (omega (arith, low)) (omega (arith, high)) (some_number (named_by (f a)) so) to))
       (no_two n (a + 1) (λ j k low up high one two. other j k (omega (arith, low)) up (omega (arith, high)) one two))
 
 -- ---- what passes in one of joined lists passes in the joined list
@@ -107,14 +117,17 @@ module _ {X : Type 0} (q : ℕ → Bool) (h : ℕ → List X) (test : X → Bool
   any_front [] ys e = let bad : ⊥ = cc e in absurd bad
   any_front (z ∷ xs) ys e = front_test (test z) (list_any test (xs ++ ys)) xs (λ more. any_front xs ys more) e
 
-  any_step : (a k : ℕ) (t : Bool) (rest : List ℕ) → q a ≡ t → q k ≡ true → list_any test (h k) ≡ true → (a + 1 ≤ k → list_any test (flat_map h rest) ≡ true)
+  any_step : (a k : ℕ) (t : Bool) (rest : List ℕ) → q a ≡ t → q k ≡ true → list_any test (h k) ≡ true
+      → (a + 1 ≤ k → list_any test (flat_map h rest) ≡ true)
       → a ≤ k → (a ≡ k) ⊎ (a ≡ k → ⊥) → list_any test (flat_map h (cond t (a ∷ rest) rest)) ≡ true
   any_step a k false rest is so here later low (inl e) = absurd (false≢true (sym is ∙ ap q e ∙ so))
   any_step a k false rest is so here later low (inr other) = later (omega (arith, low, other))
   any_step a k true rest is so here later low (inl e) = any_front (h a) (flat_map h rest) (ap (λ (y : ℕ). list_any test (h y)) e ∙ here)
   any_step a k true rest is so here later low (inr other) = any_append (h a) (flat_map h rest) (later (omega (arith, low, other)))
 
-  pub any_joined : (n a k : ℕ) → a ≤ k → k < a + n → q k ≡ true → list_any test (h k) ≡ true → list_any test (flat_map h (filter q (range_with_len a n))) ≡ true
+  pub any_joined : (n a k : ℕ) → a ≤ k → k < a + n → q k ≡ true → list_any test (h k) ≡ true
+      → list_any test (flat_map h (filter q (range_with_len a n))) ≡ true
   any_joined zero a k low high so here = absurd (omega (arith, low, high))
   any_joined (suc n) a k low high so here =
-      any_step a k (q a) (filter q (range_with_len (a + 1) n)) refl so here (λ more. any_joined n (a + 1) k more (omega (arith, high)) so here) low (cases_eq a k)
+      any_step a k (q a) (filter q (range_with_len (a + 1) n)) refl so here
+      (λ more. any_joined n (a + 1) k more (omega (arith, high)) so here) low (cases_eq a k)

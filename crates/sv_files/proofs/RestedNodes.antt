@@ -23,7 +23,8 @@ use Rattle.sv_files.proofs.WalkedNamings.{live-is}
 
 -- the file system, in the words of the image
 abbrev pub still : List ℕ → Fs → Fs
-still image fs = let g = geometry_of image in record fs { nodes = nodes_to g image (inode_count g); block = g.block_size; inodes = inode_count g }
+still image fs =
+    let g = geometry_of image in record fs { nodes = nodes_to g image (inode_count g); block = g.block_size; inodes = inode_count g }
 
 module _ (image : List ℕ) (fs : Fs) (shows : ShowsNodes image fs) where
   same-still : fs ≡ still image fs
@@ -51,7 +52,8 @@ module _ (image : List ℕ) (w : IsWalked image) (fs : Fs) (rest : IsAtRest (sti
   pub none-pending : (i : ℕ) → state.pending_on fs.pending i ≡ 0
   unfolding state.pending_on
   none-pending i =
-      let none : fs.pending ≡ fmap.empty = fmap.same_map nat_cmp_total nat_cmp-IsAntisymmetric fs.pending fmap.empty (λ p. rest.settled p ∙ sym (fmap.get-empty nat_cmp p)) in
+      let none : fs.pending ≡ fmap.empty =
+      fmap.same_map nat_cmp_total nat_cmp-IsAntisymmetric fs.pending fmap.empty (λ p. rest.settled p ∙ sym (fmap.get-empty nat_cmp p)) in
       ap (λ (m : fmap.FinMap nat_cmp ℕ). state.pending_on m i) none ∙ total-empty nat_cmp (λ (p n : ℕ). one_if (n == i))
 
   -- ---- a directory of the image is a directory with links of the tree, and back

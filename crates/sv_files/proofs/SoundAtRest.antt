@@ -27,9 +27,11 @@ module _ (image : List ℕ) (sound : IsSound image) where
   linked : (i : ℕ) (node : Node) → map.get (tree image) i ≡ Some node → 1 ≤ node.links
   unfolding node_of
   linked i node there =
-      let here : map.get (nodes_to g image (inode_count g)) i ≡ Some node = ap (λ (m : map.FinMap nat_cmp Node). map.get m i) (sym same-nodes) ∙ there in
+      let here : map.get (nodes_to g image (inode_count g)) i ≡ Some node =
+      ap (λ (m : map.FinMap nat_cmp Node). map.get m i) (sym same-nodes) ∙ there in
       let used = tree_used g image i node here in
-      let some : 1 ≤ links_of (inode_of g image i) = not_below (links_of (inode_of g image i)) 1 (or_left _ _ (or_left _ _ (links-right image sound i used.low used.high used.used))) in
+      let some : 1 ≤ links_of (inode_of g image i) =
+      not_below (links_of (inode_of g image i)) 1 (or_left _ _ (or_left _ _ (links-right image sound i used.low used.high used.used))) in
       subst (λ (n : Node). 1 ≤ n.links) (sym (tree_node g image i node here)) some
 
   at_rest : IsAtRest (loaded image)

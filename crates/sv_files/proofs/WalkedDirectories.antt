@@ -1,5 +1,6 @@
 -- A directory of an image that the walk finds in order: its size, its entries, and the entries as namings.
-use Rattle.std.proofs.Common.{◌≡◌, ◌≤◌, ◌<◌, ◌+◌, ◌-◌, ◌/◌, ◌%◌, ◌==◌, ◌&&◌, ◌||◌, ◌∷◌, [], ◌∙◌, ℕ, suc, Bool, not, true, false, List, ap, sym, refl, cond, map, filter, length, nat_le, nat_lt, arith}
+use Rattle.std.proofs.Common.{◌≡◌, ◌≤◌, ◌<◌, ◌+◌, ◌-◌, ◌/◌, ◌%◌, ◌==◌, ◌&&◌, ◌||◌, ◌∷◌, [], ◌∙◌, ℕ, suc, Bool, not, true, false, List, ap}
+use Rattle.std.proofs.Common.{sym, refl, cond, map, filter, length, nat_le, nat_lt, arith}
 use Rattle.std.specs.List.{count_by, enumerate_from, list_all, range_with_len}
 use Rattle.std.specs.FinMap as fmap
 use Rattle.std.proofs.lemmas.Bool.{eqb-true, false≢true}
@@ -24,7 +25,8 @@ use Rattle.sv_check.proofs.SoundParts.{reached_inside}
 use Rattle.sv_check.proofs.TreeBytes.{entries-are, page_of-is}
 use Rattle.sv_check.proofs.TreeCounts.{kept_alike, kept_of_map, map_map, numbered}
 
-module _ (image : List ℕ) (w : IsWalked image) (d : ℕ) (low : 1 ≤ d) (high : d < 1 + inode_count (geometry_of image)) (so : is_directory (inode_of (geometry_of image) image d) ≡ true) where
+module _ (image : List ℕ) (w : IsWalked image) (d : ℕ) (low : 1 ≤ d) (high : d < 1 + inode_count (geometry_of image))
+    (so : is_directory (inode_of (geometry_of image) image d) ≡ true) where
   abbrev g : Geometry
   g = geometry_of image
 
@@ -51,7 +53,8 @@ module _ (image : List ℕ) (w : IsWalked image) (d : ℕ) (low : 1 ≤ d) (high
   size-test : (nat_lt size 32 || not (size % 16 == 0)) ≡ false
   unfolding size_flaw
   size-test =
-      let fits : is_missized g (inode_of g image d) ≡ false = none_in_range (λ n. is_missized g (inode_of g image n)) 1 (inode_count g) w.size d low high in
+      let fits : is_missized g (inode_of g image d) ≡ false =
+      none_in_range (λ n. is_missized g (inode_of g image n)) 1 (inode_count g) w.size d low high in
       sym (ap (λ (t : Bool). t && (nat_lt size 32 || not (size % 16 == 0))) so) ∙ or_right _ _ fits
 
   size-whole : size % 16 ≡ 0
@@ -88,7 +91,8 @@ module _ (image : List ℕ) (w : IsWalked image) (d : ℕ) (low : 1 ≤ d) (high
   dir-named i =
       let all : count ≡ count - 0 = omega arith in
       ap (λ l. length (filter (λ x. x.inode == i) l)) dir-namings ∙ kept_of_map naming (λ x. x.inode == i) (range_with_len 0 count)
-      ∙ length-filter (λ j. entry_inode g.block_size node j == i) (range_with_len 0 count) ∙ ap (λ n. count_by (λ j. entry_inode g.block_size node j == i) (range_with_len 0 n)) all
+      ∙ length-filter (λ j. entry_inode g.block_size node j == i) (range_with_len 0 count)
+      ∙ ap (λ n. count_by (λ j. entry_inode g.block_size node j == i) (range_with_len 0 n)) all
 
   later : (j : ℕ) (t : Bool) → 2 ≤ j → (nat_le 2 j && t) ≡ t
   later j t past =
@@ -100,12 +104,15 @@ module _ (image : List ℕ) (w : IsWalked image) (d : ℕ) (low : 1 ≤ d) (high
   dir-children i =
       let more : count ≡ suc (suc (count - 2)) = (let least = count-least in omega (arith, least)) in
       let test : Naming → Bool = λ x. nat_le 2 x.place && (x.inode == i) in
-      length-map (filter test (namings_of g image d)) (λ x. x.directory) ∙ ap (λ l. length (filter test l)) dir-namings ∙ kept_of_map naming test (range_with_len 0 count)
+      length-map (filter test (namings_of g image d)) (λ x. x.directory) ∙ ap (λ l. length (filter test l)) dir-namings
+      ∙ kept_of_map naming test (range_with_len 0 count)
       ∙ ap (λ n. length (filter (λ j. nat_le 2 j && (entry_inode g.block_size node j == i)) (range_with_len 0 n))) more
-      ∙ kept_alike (λ j. nat_le 2 j && (entry_inode g.block_size node j == i)) (λ j. entry_inode g.block_size node j == i) (count - 2) 2 (λ j past below. later j (entry_inode g.block_size node j == i) past)
+      ∙ kept_alike (λ j. nat_le 2 j && (entry_inode g.block_size node j == i)) (λ j. entry_inode g.block_size node j == i) (count - 2) 2
+      (λ j past below. later j (entry_inode g.block_size node j == i) past)
       ∙ length-filter (λ j. entry_inode g.block_size node j == i) (range_with_len 2 (count - 2))
 
-  own_step : (p : Naming → Bool) (j : ℕ) (t : Bool) (rest : List Naming) → list_all (λ x. x == d) (map (λ e. e.directory) rest) ≡ true → list_all (λ x. x == d) (map (λ e. e.directory) (cond t (naming j ∷ rest) rest)) ≡ true
+  own_step : (p : Naming → Bool) (j : ℕ) (t : Bool) (rest : List Naming) → list_all (λ x. x == d) (map (λ e. e.directory) rest) ≡ true
+      → list_all (λ x. x == d) (map (λ e. e.directory) (cond t (naming j ∷ rest) rest)) ≡ true
   own_step p j false rest e = e
   own_step p j true rest e =
       let itself : (d == d) ≡ true = grind arith in

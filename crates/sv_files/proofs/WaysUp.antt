@@ -1,6 +1,7 @@
 -- A way along `..` to the root of any length, and one of no more steps than there are numbers: on a shortest way each number
 -- stands once. The numbers from which so many steps lead to the root are one more with each step, until no more come.
-use Rattle.std.proofs.Common.{◌≡◌, ◌≤◌, ◌<◌, ◌+◌, ◌==◌, ◌||◌, ◌⊎◌, ◌∙◌, ℕ, zero, suc, Bool, true, false, Option, Some, None, inl, inr, ap, refl, arith}
+use Rattle.std.proofs.Common.{◌≡◌, ◌≤◌, ◌<◌, ◌+◌, ◌==◌, ◌||◌, ◌⊎◌, ◌∙◌, ℕ, zero, suc, Bool, true, false, Option, Some, None, inl, inr, ap}
+use Rattle.std.proofs.Common.{refl, arith}
 use Rattle.std.specs.List.{count_by, range_with_len}
 use Rattle.std.proofs.lemmas.Bool.{cases_lt, eq-eqb, eqb-true}
 use Rattle.sv_plain.specs.Names.{some_and}
@@ -81,7 +82,10 @@ module _ (up : ℕ → Option ℕ) where
           | inl enough ↦ inl (λ n d e. longer j d (enough n d e))
           | inr some ↦ elim (cases_lt (many j) (many (suc j))) [
             | inl more ↦ inr (omega (arith, some, more))
-            | inr few ↦ inl (λ n d e. longer j d (ends j (λ x low so. count_same (rises_to_root up j) (rises_to_root up (suc j)) (longer j) (top + 1) 0 x few (omega arith) (omega (arith, low)) so) n d e))
+            | inr few ↦
+                inl (λ n d e. longer j d (ends j
+                (λ x low so. count_same (rises_to_root up j) (rises_to_root up (suc j)) (longer j) (top + 1) 0 x few (omega arith)
+                (omega (arith, low)) so) n d e))
           ]
         ]
 
@@ -99,7 +103,9 @@ module _ (up : ℕ → Option ℕ) where
         elim (grows top) [
           | inl enough ↦ enough n d e
           | inr all ↦
-              let full : count_by (λ (i : ℕ). true) (range_with_len 0 (top + 1)) ≡ top + 1 = count_all (λ (i : ℕ). true) 0 (top + 1) (λ i. refl) in
+              let full : count_by (λ (i : ℕ). true) (range_with_len 0 (top + 1)) ≡ top + 1 =
+              count_all (λ (i : ℕ). true) 0 (top + 1) (λ i. refl) in
               let low : d ≤ top = high_none n d e in
-              count_same (rises_to_root up top) (λ (i : ℕ). true) (λ i so. refl) (top + 1) 0 d (omega (arith, all, full)) (omega arith) (omega (arith, low)) refl
+              count_same (rises_to_root up top) (λ (i : ℕ). true) (λ i so. refl) (top + 1) 0 d (omega (arith, all, full)) (omega arith)
+              (omega (arith, low)) refl
         ]

@@ -50,7 +50,8 @@ pub record HasInodesInOrder (image : List ℕ) : Type 0 where
 -- A sized image that has the lines of the inodes of a whole file system at rest has its inodes in order.
 abbrev pub NodesHaveInodes : Type 0
 NodesHaveInodes =
-    (image : List ℕ) (o : Origin) (fs : Fs) (parts : ℕ → Held) (others : Held) (used : List Bool) → IsSizedAs o.sizes image → HasNumbersOf o fs → IsAtRest fs
+    (image : List ℕ) (o : Origin) (fs : Fs) (parts : ℕ → Held) (others : Held) (used : List Bool) → IsSizedAs o.sizes image
+    → HasNumbersOf o fs → IsAtRest fs
     → HoldsAllInodes o image fs parts others used → HasInodesInOrder image
 
 -- the conditions 6 and 7 hold
@@ -61,5 +62,6 @@ pub record IsWalkedOnce (image : List ℕ) : Type 0 where
 -- and the walk over its blocks meets data blocks alone, and each once.
 abbrev pub NodesAreWalkedOnce : Type 0
 NodesAreWalkedOnce =
-    (image : List ℕ) (o : Origin) (fs : Fs) (parts : ℕ → Held) (others : Held) (used : List Bool) → IsGeometry o.sizes → IsSizedAs o.sizes image → HoldsAllInodes o image fs parts others used
+    (image : List ℕ) (o : Origin) (fs : Fs) (parts : ℕ → Held) (others : Held) (used : List Bool) → IsGeometry o.sizes
+    → IsSizedAs o.sizes image → HoldsAllInodes o image fs parts others used
     → IsWalkedOnce image

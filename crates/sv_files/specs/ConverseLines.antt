@@ -43,7 +43,9 @@ pub record IsSizedAs (g : Geometry) (image : List ℕ) : Type 0 where
 
 -- An image that has the lines of a flushed core is sized.
 abbrev pub FlushedIsSized : Type 0
-FlushedIsSized = (image : List ℕ) (o : Origin) (h : Held) (head : Head) (order cached : List ℕ) → IsFlushed o image h head order cached → IsSizedAs o.sizes image
+FlushedIsSized =
+    (image : List ℕ) (o : Origin) (h : Held) (head : Head) (order cached : List ℕ) → IsFlushed o image h head order cached
+    → IsSizedAs o.sizes image
 
 -- Where its cached inodes are free, condition 12 holds.
 abbrev pub FlushedIsCached : Type 0

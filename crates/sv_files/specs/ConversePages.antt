@@ -19,11 +19,13 @@ pub record IsPagedWell (image : List ℕ) : Type 0 where
 -- number, and zero bytes after the end of each last page.
 abbrev pub NodesArePagedWell : Type 0
 NodesArePagedWell =
-    (image : List ℕ) (o : Origin) (fs : Fs) (parts : ℕ → Held) (others : Held) (used : List Bool) → IsGeometry o.sizes → IsSizedAs o.sizes image → HasNumbersOf o fs → IsAtRest fs
+    (image : List ℕ) (o : Origin) (fs : Fs) (parts : ℕ → Held) (others : Held) (used : List Bool) → IsGeometry o.sizes
+    → IsSizedAs o.sizes image → HasNumbersOf o fs → IsAtRest fs
     → HoldsAllInodes o image fs parts others used → IsPagedWell image
 
 -- The tree of such an image is the nodes.
 abbrev pub NodesAreTree : Type 0
 NodesAreTree =
-    (image : List ℕ) (o : Origin) (fs : Fs) (parts : ℕ → Held) (others : Held) (used : List Bool) → IsGeometry o.sizes → IsSizedAs o.sizes image → HasNumbersOf o fs → IsAtRest fs
+    (image : List ℕ) (o : Origin) (fs : Fs) (parts : ℕ → Held) (others : Held) (used : List Bool) → IsGeometry o.sizes
+    → IsSizedAs o.sizes image → HasNumbersOf o fs → IsAtRest fs
     → HoldsAllInodes o image fs parts others used → tree image ≡ fs.nodes

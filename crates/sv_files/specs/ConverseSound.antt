@@ -16,7 +16,8 @@ use Rattle.sv_files.specs.ConverseLines.{AreFreeInodes, IsFlushed}
 use Rattle.sv_files.specs.ConverseNames.{IsAtRest}
 
 -- block b stands in the address tree of node n
-pub record IsInTreeOf (o : Origin) (image : List ℕ) (fs : Fs) (parts : ℕ → Held) (others : Held) (used : List Bool) (all : HoldsAllInodes o image fs parts others used) (n b : ℕ) : Type 0 where
+pub record IsInTreeOf (o : Origin) (image : List ℕ) (fs : Fs) (parts : ℕ → Held) (others : Held) (used : List Bool)
+    (all : HoldsAllInodes o image fs parts others used) (n b : ℕ) : Type 0 where
   pub node : Node
   pub there : map.get fs.nodes n ≡ Some node
   pub slot : ℕ
@@ -26,7 +27,8 @@ pub record IsInTreeOf (o : Origin) (image : List ℕ) (fs : Fs) (parts : ℕ →
 
 -- The lines are shared out: none is both in a part and in the rest, the first line of each data block is in one of them, a part holds
 -- lines of data blocks of its tree alone, and the rest of those of the chain alone.
-pub record IsSharedOut (o : Origin) (image : List ℕ) (fs : Fs) (parts : ℕ → Held) (others : Held) (used : List Bool) (order : List ℕ) (all : HoldsAllInodes o image fs parts others used) : Type 0 where
+pub record IsSharedOut (o : Origin) (image : List ℕ) (fs : Fs) (parts : ℕ → Held) (others : Held) (used : List Bool) (order : List ℕ)
+    (all : HoldsAllInodes o image fs parts others used) : Type 0 where
   pub apart : (n : ℕ) → Apart (parts n) others
   pub each : (b : ℕ) → IsDataBlock o.sizes b → IsSome (others b 0) ⊎ ((n : ℕ) × IsSome (parts n b 0))
   pub tight_rest : (b l : ℕ) → IsSome (others b l) → IsDataBlock o.sizes b → 0 < times b order
@@ -34,7 +36,8 @@ pub record IsSharedOut (o : Origin) (image : List ℕ) (fs : Fs) (parts : ℕ �
 
 -- The image has the lines of a file system that was closed: each node of a whole file system at rest stands in a part, and the rest are
 -- the lines of a flushed core, with the chain of the blocks that no node uses, and those of the free inodes.
-pub record IsClosed (o : Origin) (image : List ℕ) (fs : Fs) (parts : ℕ → Held) (others : Held) (used : List Bool) (head : Head) (order cached : List ℕ) : Type 0 where
+pub record IsClosed (o : Origin) (image : List ℕ) (fs : Fs) (parts : ℕ → Held) (others : Held) (used : List Bool) (head : Head)
+    (order cached : List ℕ) : Type 0 where
   pub flushed : IsFlushed o image others head order cached
   pub numbers : HasNumbersOf o fs
   pub rest : IsAtRest fs
@@ -46,5 +49,6 @@ pub record IsClosed (o : Origin) (image : List ℕ) (fs : Fs) (parts : ℕ → H
 -- Such an image is sound, and its tree is the nodes.
 abbrev pub ClosedIsSound : Type 0
 ClosedIsSound =
-    (image : List ℕ) (o : Origin) (fs : Fs) (parts : ℕ → Held) (others : Held) (used : List Bool) (head : Head) (order cached : List ℕ) → IsClosed o image fs parts others used head order cached
+    (image : List ℕ) (o : Origin) (fs : Fs) (parts : ℕ → Held) (others : Held) (used : List Bool) (head : Head) (order cached : List ℕ)
+    → IsClosed o image fs parts others used head order cached
     → IsSound image × (tree image ≡ fs.nodes)
