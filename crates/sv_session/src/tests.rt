@@ -1,6 +1,7 @@
 // The program over the forms in memory.
 ghost use Rattle.std.specs.Prelude.{◌+◌, ◌<◌, ◌^◌, length};
 
+mod deep_file;
 pub(crate) mod made_images;
 
 use crate::cat::cat_disk;
@@ -40,13 +41,31 @@ fn put(image: &mut Vec<u8>, at: usize, bytes: &[u8])
 
 // What the program did: its status, and what its two sinks hold.
 #[derive(Drop)]
-struct Done {
-    status: u8,
-    out: MemSink,
-    note: MemSink,
+pub(crate) struct Done {
+    pub(crate) status: u8,
+    pub(crate) out: MemSink,
+    pub(crate) note: MemSink,
 }
 
-// Runs the program on an image that stands under the name E.
+// Runs the program over a host, with a sink some of whose calls fail.
+pub(crate) fn run_on<R: Files<File = File> + AllocGlobal + Threads + Wait>(
+    rt: &R,
+    host: &mut MemHost,
+    out_fails: Vec<u64>,
+    words: &[&str],
+) -> Result<Done, Failure> {
+    let alloc = rt.alloc();
+    let mut texts = Vec::new(alloc);
+    for word in words {
+        texts.push(String::from_str(alloc, word)?)?;
+    }
+    let mut out = MemSink::new(out_fails);
+    let mut note = MemSink::new(Vec::new(alloc));
+    let status = svfs(rt, alloc, &texts, host, &NoWatch, &mut out, &mut note);
+    Ok(Done { status, out, note })
+}
+
+// The same over an image that stands under the name E.
 fn run<R: Files<File = File> + AllocGlobal + Threads + Wait>(
     rt: &R,
     image: Vec<u8>,
@@ -54,17 +73,9 @@ fn run<R: Files<File = File> + AllocGlobal + Threads + Wait>(
     out_fails: Vec<u64>,
     words: &[&str],
 ) -> Result<Done, Failure> {
-    let alloc = rt.alloc();
-    let mut host = MemHost::new(Vec::new(alloc));
+    let mut host = MemHost::new(Vec::new(rt.alloc()));
     host.put_image("E", image, disk_fails)?;
-    let mut texts = Vec::new(alloc);
-    for word in words {
-        texts.push(String::from_str(alloc, word)?)?;
-    }
-    let mut out = MemSink::new(out_fails);
-    let mut note = MemSink::new(Vec::new(alloc));
-    let status = svfs(rt, alloc, &texts, &mut host, &NoWatch, &mut out, &mut note);
-    Ok(Done { status, out, note })
+    run_on(rt, &mut host, out_fails, words)
 }
 
 // The program over this host answers these words with this status, these bytes and this line.
@@ -76,17 +87,10 @@ pub(crate) fn answers<R: Files<File = File> + AllocGlobal + Threads + Wait + Abo
     out: &str,
     note: &str,
 ) -> Result<(), Failure> {
-    let alloc = rt.alloc();
-    let mut texts = Vec::new(alloc);
-    for word in words {
-        texts.push(String::from_str(alloc, word)?)?;
-    }
-    let mut shown = MemSink::new(Vec::new(alloc));
-    let mut noted = MemSink::new(Vec::new(alloc));
-    let answered = svfs(rt, alloc, &texts, host, &NoWatch, &mut shown, &mut noted);
-    assert_eq!(rt; answered, status);
-    assert_eq!(rt; shown.written(), out.as_bytes());
-    assert_eq!(rt; noted.written(), note.as_bytes());
+    let done = run_on(rt, host, Vec::new(rt.alloc()), words)?;
+    assert_eq!(rt; done.status, status);
+    assert_eq!(rt; done.out.written(), out.as_bytes());
+    assert_eq!(rt; done.note.written(), note.as_bytes());
     Ok(())
 }
 
