@@ -4,3 +4,4 @@ pub mod ConverseLines
 pub mod ConverseNames
 pub mod ConversePages
 pub mod ConverseSound
+pub mod FromImage

@@ -1,5 +1,7 @@
 //! From an image to the lines that a stake holds, and back: laws over the definitions of the crates below, without code.
 //!
+//! - `inodes_stand_for_nodes`, `free_blocks_mount` and `free_inodes_mount` give, from a sound image, what each used inode's lines
+//!   stand for, and all that a core asks of the lines that no inode owns.
 //! - `closed_is_sound` gives a sound image, whose tree is the nodes, from the lines of a file system that was closed. Each other
 //!   law is a part of it, from what alone it needs.
 //! - `flushed_is_sized`, `flushed_is_chained` and `flushed_is_cached` give the conditions 1 to 3 and 10 to 12 from the lines of a
@@ -11,9 +13,11 @@
 #![tactic(auto)]
 
 mod converse;
+mod from_image;
 
 pub use converse::{
     closed_is_sound, flushed_is_cached, flushed_is_chained, flushed_is_sized, nodes_are_named,
     nodes_are_paged_well, nodes_are_tree, nodes_are_walked_once, nodes_have_inodes,
     purged_is_at_rest, sound_is_at_rest,
 };
+pub use from_image::{free_blocks_mount, free_inodes_mount, inodes_stand_for_nodes};
