@@ -219,11 +219,8 @@ module _ (g : Geometry) (image : List ℕ) where
   unfolding first_broken
   past_link n x on =
       let parts = good_list on.before x (chain_from g image n (list_at x) ++ []) (reads_list (block_of g image x)) on.none in
-      record {
-        reads = parts.0;
-        rest = record
-            { before = on.before; none = ap (first_broken g image on.before) (sym (append-nil (chain_from g image n (list_at x)))) ∙ parts.1 };
-      }
+      let same = ap (first_broken g image on.before) (sym (append-nil (chain_from g image n (list_at x)))) in
+      record { reads = parts.0; rest = record { before = on.before; none = same ∙ parts.1 } }
 
   reads-on : (n x : ℕ) (ys : List ℕ) → x ≢ 0 → GoesOn (chain_from g image (suc n) (x ∷ ys)) → ReadsOn n x
   reads-on n x ys some on =
