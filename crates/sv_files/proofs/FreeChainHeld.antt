@@ -1,5 +1,7 @@
 -- The chain of free blocks of an image is one of the held lines: it has each free block once, and no other.
-use Rattle.std.proofs.Common.{◌≡◌, ◌≢◌, ◌≤◌, ◌<◌, ◌+◌, ◌-◌, ◌*◌, ◌/◌, ◌%◌, ◌==◌, ◌&&◌, ◌||◌, ◌++◌, ◌⊎◌, ℕ, zero, suc, Bool, true, false, not, List, [], ◌∷◌, inl, inr, Option, Some, None, IsSome, flat_map, length, map, nat_le, nat_lt, take, unwrap_or, cond, append_assoc, arith, ap, refl, sym, subst, ◌∙◌}
+use Rattle.std.proofs.Common.{◌≡◌, ◌≢◌, ◌≤◌, ◌<◌, ◌+◌, ◌-◌, ◌*◌, ◌/◌, ◌%◌, ◌==◌, ◌&&◌, ◌||◌, ◌++◌, ◌⊎◌, ℕ, zero, suc, Bool, true, false}
+use Rattle.std.proofs.Common.{not, List, [], ◌∷◌, inl, inr, Option, Some, None, IsSome, flat_map, length, map, nat_le, nat_lt, take}
+use Rattle.std.proofs.Common.{unwrap_or, cond, append_assoc, arith, ap, refl, sym, subst, ◌∙◌}
 use Rattle.std.specs.List.{list_any}
 use Rattle.std.proofs.Common.{length-append}
 use Rattle.std.proofs.lemmas.Bool.{cases_eq, eq-eqb, eqb-true, false≢true, ne_eqb}
@@ -15,7 +17,8 @@ use Rattle.sv_form.specs.OwnerTable.{OwnerTable}
 use Rattle.sv_form.specs.Owners.{owner_of}
 use Rattle.sv_form.specs.Superblock.{IsSuper}
 use Rattle.sv_check.proofs.WalkMet.{Met}
-use Rattle.sv_check.specs.Chain.{Chained, number, list, chain, chain_flaw, chain_from, chained, chained_number, first_broken, free_list, link_of, list_in, lost_flaw, reads_list, walked}
+use Rattle.sv_check.specs.Chain.{Chained, number, list, chain, chain_flaw, chain_from, chained, chained_number, first_broken, free_list}
+use Rattle.sv_check.specs.Chain.{link_of, list_in, lost_flaw, reads_list, walked}
 use Rattle.sv_check.specs.InodeList.{is_free, used_inodes}
 use Rattle.sv_check.specs.Sound.{IsChained, line_owner, owns}
 use Rattle.sv_check.specs.Walk.{Reached, first_bad, is_among, is_data_block, is_new, met_of, nothing_met, reached, walk, with_met}
@@ -49,19 +52,25 @@ turned (x ∷ xs) = turned xs ++ x ∷ []
 
 times-turned : (b : ℕ) (xs : List ℕ) → times b (turned xs) ≡ times b xs
 times-turned b [] = refl
-times-turned b (x ∷ xs) = let rest = times-turned b xs in let last = times-snoc b x (turned xs) in let first = times-cons b x xs in omega (arith, rest, last, first)
+times-turned b (x ∷ xs) =
+    let rest =
+    times-turned b xs in let last = times-snoc b x (turned xs) in let first = times-cons b x xs in omega (arith, rest, last, first)
 
 -- numbers that are added to a list are taken first, the last one first
 snoc-chain : (h : Held) (start ys rest : List ℕ) → 1 ≤ length start → ((y : ℕ) → 0 < times y ys → y ≢ 0) → IsChain h start rest
     → IsChain h (start ++ ys) (turned ys ++ rest)
 snoc-chain h start [] rest some named is = subst (λ (l : List ℕ). IsChain h l rest) (sym (append-nil start)) is
 snoc-chain h start (y ∷ ys) rest some named is =
-    let here : y ≢ 0 = named y (let e = times-cons y y ys in let one : one_if (y == y) ≡ 1 = ap one_if (eq-eqb y y refl) in omega (arith, e, one)) in
-    let one : IsChain h (start ++ y ∷ []) (y ∷ rest) = chain-more h (start ++ y ∷ []) start y rest (next-snoc h start y some here) (after-snoc h start y some) is in
+    let here : y ≢ 0 =
+    named y (let e = times-cons y y ys in let one : one_if (y == y) ≡ 1 = ap one_if (eq-eqb y y refl) in omega (arith, e, one)) in
+    let one : IsChain h (start ++ y ∷ []) (y ∷ rest) =
+    chain-more h (start ++ y ∷ []) start y rest (next-snoc h start y some here) (after-snoc h start y some) is in
     let long : length (start ++ y ∷ []) ≡ length start + 1 = length-append start (y ∷ []) in
     let all : IsChain h ((start ++ y ∷ []) ++ ys) (turned ys ++ (y ∷ rest)) =
-    snoc-chain h (start ++ y ∷ []) ys (y ∷ rest) (omega (arith, long)) (λ z low. named z (let e = times-cons z y ys in omega (arith, e, low))) one in
-    subst (λ (l : List ℕ). IsChain h l ((turned ys ++ y ∷ []) ++ rest)) (append_assoc start (y ∷ []) ys) (subst (λ (l : List ℕ). IsChain h ((start ++ y ∷ []) ++ ys) l) (sym (append_assoc (turned ys) (y ∷ []) rest)) all)
+    snoc-chain h (start ++ y ∷ []) ys (y ∷ rest) (omega (arith, long))
+    (λ z low. named z (let e = times-cons z y ys in omega (arith, e, low))) one in
+    subst (λ (l : List ℕ). IsChain h l ((turned ys ++ y ∷ []) ++ rest)) (append_assoc start (y ∷ []) ys)
+    (subst (λ (l : List ℕ). IsChain h ((start ++ y ∷ []) ++ ys) l) (sym (append_assoc (turned ys) (y ∷ []) rest)) all)
 
 -- ---- the numbers of a chain
 
@@ -127,14 +136,17 @@ module _ (g : Geometry) (image : List ℕ) where
     by : (x ≡ 0) ⊎ (x ≢ 0) → times b (order_from n (list_at x)) ≡ times b (met_from n (list_at x))
         → times b (turned ys ++ cond (x == 0) [] (x ∷ order_from n (list_at x))) ≡ times b (met_from (suc n) (x ∷ ys))
     by (inl e) rest =
-        ap (λ (t : Bool). times b (turned ys ++ cond t [] (x ∷ order_from n (list_at x)))) (eq-eqb x 0 e) ∙ ap (times b) (append-nil (turned ys)) ∙ times-turned b ys ∙ ap (times b) (sym (met-hole n x ys e))
+        ap (λ (t : Bool). times b (turned ys ++ cond t [] (x ∷ order_from n (list_at x)))) (eq-eqb x 0 e)
+        ∙ ap (times b) (append-nil (turned ys)) ∙ times-turned b ys ∙ ap (times b) (sym (met-hole n x ys e))
     by (inr some) rest =
         let one = times-append b (turned ys) (x ∷ order_from n (list_at x)) in
         let two = times-cons b x (order_from n (list_at x)) in
         let three = times-append b (x ∷ ys) (met_from n (list_at x)) in
         let four = times-cons b x ys in
-        let sums : times b (turned ys ++ x ∷ order_from n (list_at x)) ≡ times b ((x ∷ ys) ++ met_from n (list_at x)) = omega (arith, one, two, three, four, rest, times-turned b ys) in
-        ap (λ (t : Bool). times b (turned ys ++ cond t [] (x ∷ order_from n (list_at x)))) (ne_eqb x 0 some) ∙ sums ∙ ap (times b) (sym (met-link n x ys some))
+        let sums : times b (turned ys ++ x ∷ order_from n (list_at x)) ≡ times b ((x ∷ ys) ++ met_from n (list_at x)) =
+        omega (arith, one, two, three, four, rest, times-turned b ys) in
+        ap (λ (t : Bool). times b (turned ys ++ cond t [] (x ∷ order_from n (list_at x)))) (ne_eqb x 0 some) ∙ sums
+        ∙ ap (times b) (sym (met-link n x ys some))
 
   -- ---- where the chain is not broken
 
@@ -161,7 +173,12 @@ module _ (g : Geometry) (image : List ℕ) where
       let same : x ≡ b = eqb-true x b is in
       let old : before x ≡ false = not_true (before x) (and_second (is_data_block g x) (not (before x)) new) in
       let none : k ≡ 0 = rest.fresh (ap (λ (t : Bool). t || before b) (eq-eqb b x (sym same))) in
-      record { once = omega (arith, none); fresh = λ e. absurd (false≢true (sym old ∙ ap before same ∙ e)); inside = λ _. ap (is_data_block g) (sym same) ∙ and_first (is_data_block g x) (not (before x)) new }
+      record {
+        once = omega (arith, none);
+        fresh = λ e. absurd (false≢true (sym old ∙ ap before same ∙ e));
+        inside = λ _. ap
+            (is_data_block g) (sym same) ∙ and_first (is_data_block g x) (not (before x)) new;
+      }
   once_step before x b k false is new rest =
       let few_left = rest.once in
       record {
@@ -190,7 +207,8 @@ module _ (g : Geometry) (image : List ℕ) where
       → GoesOn rest
   unfolding first_broken
   past_numbers before [] rest none = record { before = before; none = none }
-  past_numbers before (x ∷ xs) rest none = past_numbers (with_met before x) xs rest (good_number before x (map number xs ++ rest) (is_new g before x) none).1
+  past_numbers before (x ∷ xs) rest none =
+      past_numbers (with_met before x) xs rest (good_number before x (map number xs ++ rest) (is_new g before x) none).1
 
   -- the list in a link block reads, and the chain goes on there
   record ReadsOn (n x : ℕ) : Type 0 where
@@ -201,10 +219,13 @@ module _ (g : Geometry) (image : List ℕ) where
   unfolding first_broken
   past_link n x on =
       let parts = good_list on.before x (chain_from g image n (list_at x) ++ []) (reads_list (block_of g image x)) on.none in
-      record { reads = parts.0; rest = record { before = on.before; none = ap (first_broken g image on.before) (sym (append-nil (chain_from g image n (list_at x)))) ∙ parts.1 } }
+      let same = ap (first_broken g image on.before) (sym (append-nil (chain_from g image n (list_at x)))) in
+      record { reads = parts.0; rest = record { before = on.before; none = same ∙ parts.1 } }
 
   reads-on : (n x : ℕ) (ys : List ℕ) → x ≢ 0 → GoesOn (chain_from g image (suc n) (x ∷ ys)) → ReadsOn n x
-  reads-on n x ys some on = past_link n x (past_numbers on.before (x ∷ ys) ((list x ∷ chain_from g image n (list_at x)) ++ []) (ap (first_broken g image on.before) (sym (chain-link n x ys some)) ∙ on.none))
+  reads-on n x ys some on =
+      past_link n x (past_numbers on.before (x ∷ ys) ((list x ∷ chain_from g image n (list_at x)) ++ [])
+      (ap (first_broken g image on.before) (sym (chain-link n x ys some)) ∙ on.none))
 
   -- ---- the chain ends
 
@@ -226,7 +247,8 @@ module _ (g : Geometry) (image : List ℕ) where
       → IsLinkBlock (take 204 (block_of g image x)) (record { numbers = record { items = list_at x } })
   spelled x long reads =
       let found = reads_spelled (block_of g image x) long reads in
-      subst (λ (l : List ℕ). IsLinkBlock (take 204 (block_of g image x)) (record { numbers = record { items = l } })) (list_of (block_of g image x) found.0 found.1) found.1
+      subst (λ (l : List ℕ). IsLinkBlock (take 204 (block_of g image x)) (record { numbers = record { items = l } }))
+      (list_of (block_of g image x) found.0 found.1) found.1
 
   named : IsGeometry g → (x : ℕ) → is_data_block g x ≡ true → x ≢ 0
   named sizes x is_in e =
@@ -281,18 +303,21 @@ module _ (g : Geometry) (image : List ℕ) where
         → Ends n numbers ⊎ (n ≤ length (met_from n numbers))
     ends-or-many zero numbers on some = inr (omega arith)
     ends-or-many (suc n) [] on some = absurd (omega (arith, some))
-    ends-or-many (suc n) (x ∷ ys) on some = by (cases_eq x 0) (λ there. (let next = links-on n x ys there on in ends-or-many n (list_at x) next.on next.list_is.numbers.some)) where
-      by : (x ≡ 0) ⊎ (x ≢ 0) → (x ≢ 0 → Ends n (list_at x) ⊎ (n ≤ length (met_from n (list_at x))))
-          → Ends (suc n) (x ∷ ys) ⊎ (suc n ≤ length (met_from (suc n) (x ∷ ys)))
-      by (inl e) rest = inl (inl e)
-      by (inr there) rest = further there (rest there) where
-        further : x ≢ 0 → Ends n (list_at x) ⊎ (n ≤ length (met_from n (list_at x)))
+    ends-or-many (suc n) (x ∷ ys) on some =
+        by (cases_eq x 0) (λ there. (let next = links-on n x ys there on in ends-or-many n (list_at x) next.on next.list_is.numbers.some))
+      where
+        by : (x ≡ 0) ⊎ (x ≢ 0) → (x ≢ 0 → Ends n (list_at x) ⊎ (n ≤ length (met_from n (list_at x))))
             → Ends (suc n) (x ∷ ys) ⊎ (suc n ≤ length (met_from (suc n) (x ∷ ys)))
-        further there (inl ends) = inl (inr (there, ends))
-        further there (inr many) =
-            let same = ap (λ (l : List ℕ). length l) (met-link n x ys there) in
-            let all : length ((x ∷ ys) ++ met_from n (list_at x)) ≡ length (x ∷ ys) + length (met_from n (list_at x)) = length-append (x ∷ ys) (met_from n (list_at x)) in
-            inr (omega (arith, same, all, many))
+        by (inl e) rest = inl (inl e)
+        by (inr there) rest = further there (rest there) where
+          further : x ≢ 0 → Ends n (list_at x) ⊎ (n ≤ length (met_from n (list_at x)))
+              → Ends (suc n) (x ∷ ys) ⊎ (suc n ≤ length (met_from (suc n) (x ∷ ys)))
+          further there (inl ends) = inl (inr (there, ends))
+          further there (inr many) =
+              let same = ap (λ (l : List ℕ). length l) (met-link n x ys there) in
+              let all : length ((x ∷ ys) ++ met_from n (list_at x)) ≡ length (x ∷ ys) + length (met_from n (list_at x)) =
+              length-append (x ∷ ys) (met_from n (list_at x)) in
+              inr (omega (arith, same, all, many))
 
     chain-held : (h : Held) (n : ℕ) (numbers : List ℕ) → GoesOn (chain_from g image n numbers) → Ends n numbers
         → ((b : ℕ) → 0 < times b (met_from n numbers) → front (h b) ≡ take 204 (block_of g image b))
@@ -300,7 +325,8 @@ module _ (g : Geometry) (image : List ℕ) where
     chain-held h zero numbers on ends holds = absurd ends
     chain-held h (suc n) [] on ends holds = absurd ends
     chain-held h (suc n) (x ∷ ys) on ends holds =
-        by ends (λ there rest. (let next = links-on n x ys there on in chain-held h n (list_at x) next.on rest (λ b some. holds b (more-met n x b ys there some)))) where
+        by ends (λ there rest. (let next = links-on n x ys there on in
+        chain-held h n (list_at x) next.on rest (λ b some. holds b (more-met n x b ys there some)))) where
           each : (y : ℕ) → 0 < times y ys → y ≢ 0
           each y some = named sizes y (met-data (chain_from g image (suc n) (x ∷ ys)) on y (later-met n x y ys some))
 
@@ -311,8 +337,14 @@ module _ (g : Geometry) (image : List ℕ) where
               (snoc-chain h (x ∷ []) ys [] (omega arith) each (chain-empty h (x ∷ []) (ap (λ (z : ℕ). z ∷ []) e)))
           by (inr there) rest =
               let next = links-on n x ys there.0 on in
-              let has : HasList (h x) (list_at x) = record { spelled = subst (λ (l : List ℕ). IsLinkBlock l (record { numbers = record { items = list_at x } })) (sym (holds x (first-met n x ys there.0))) next.list_is } in
-              let more : IsChain h (x ∷ []) (x ∷ order_from n (list_at x)) = chain-more h (x ∷ []) (list_at x) x (order_from n (list_at x)) (next-link h (list_at x) x has there.0) (after-link h (list_at x) x has) (rest there.0 there.1) in
+              let has : HasList (h x) (list_at x) =
+              record {
+                spelled = subst (λ (l : List ℕ). IsLinkBlock l (record { numbers = record { items = list_at x } }))
+                    (sym (holds x (first-met n x ys there.0))) next.list_is;
+              } in
+              let more : IsChain h (x ∷ []) (x ∷ order_from n (list_at x)) =
+              chain-more h (x ∷ []) (list_at x) x (order_from n (list_at x)) (next-link h (list_at x) x has there.0)
+              (after-link h (list_at x) x has) (rest there.0 there.1) in
               subst (λ (t : Bool). IsChain h (x ∷ ys) (turned ys ++ cond t [] (x ∷ order_from n (list_at x)))) (sym (ne_eqb x 0 there.0))
               (snoc-chain h (x ∷ []) ys (x ∷ order_from n (list_at x)) (omega arith) each more)
 
@@ -373,7 +405,8 @@ module _ (g : Geometry) (image : List ℕ) (sizes : IsGeometry g) where
   no_one : (b l n : ℕ) → (b < 2) ⊎ (g.first_data ≤ b) → is_among (walked g image) b ≡ false → 1 ≤ n → n < 1 + inode_count g
       → is_used n ≡ true → owns g image (record { block = b; line = l }) n ≡ false
   no_one b l n out unmet low high is =
-      ap (λ (t : Bool). t || list_any (is_at b) (reached g image (inode_of g image n))) (elsewhere g sizes (record { block = b; line = l }) n low (omega (arith, high)) out)
+      ap (λ (t : Bool). t || list_any (is_at b) (reached g image (inode_of g image n)))
+      (elsewhere g sizes (record { block = b; line = l }) n low (omega (arith, high)) out)
       ∙ by (list_any (is_at b) (reached g image (inode_of g image n))) refl where
         by : (t : Bool) → list_any (is_at b) (reached g image (inode_of g image n)) ≡ t → t ≡ false
         by false e = refl
@@ -383,7 +416,9 @@ module _ (g : Geometry) (image : List ℕ) (sizes : IsGeometry g) where
       → line_owner g image (record { block = b; line = l }) ≡ 0
   unfolding line_owner used_inodes
   nobodys b l out unmet =
-      ap (λ (o : Option ℕ). unwrap_or o 0) (find-never (owns g image (record { block = b; line = l })) is_used (inode_count g) 1 (λ k low high is. no_one b l k out unmet low high is))
+      ap (λ (o : Option ℕ). unwrap_or o 0)
+      (find-never (owns g image (record { block = b; line = l })) is_used (inode_count g) 1
+      (λ k low high is. no_one b l k out unmet low high is))
 
 -- ---- the mount
 
@@ -410,8 +445,10 @@ all_three true true u e f d = d
 all_three true false u e f d = f
 all_three false t u e f d = e
 
-module _ (o : Origin) (image : List ℕ) (sizes : IsGeometry o.sizes) (long : length image ≡ o.sizes.blocks * o.sizes.block_size) (none : first_bad o.sizes nothing_met (walk o.sizes image) ≡ None)
-    (chain_holds : chain_flaw o.sizes image ≡ None) (lost : lost_flaw o.sizes image ≡ None) (t : OwnerTable) (tells : TellsOwners o.sizes image t) (h : Held) (holds : HoldsLinesOf o.sizes image 0 h) where
+module _ (o : Origin) (image : List ℕ) (sizes : IsGeometry o.sizes) (long : length image ≡ o.sizes.blocks * o.sizes.block_size)
+    (none : first_bad o.sizes nothing_met (walk o.sizes image) ≡ None)
+    (chain_holds : chain_flaw o.sizes image ≡ None) (lost : lost_flaw o.sizes image ≡ None) (t : OwnerTable)
+    (tells : TellsOwners o.sizes image t) (h : Held) (holds : HoldsLinesOf o.sizes image 0 h) where
   abbrev g : Geometry
   g = o.sizes
 
@@ -447,14 +484,16 @@ module _ (o : Origin) (image : List ℕ) (sizes : IsGeometry o.sizes) (long : le
   free-line b l some low =
       let data_b = data_in b some in
       let size = sizes.block_size in
-      holds.own b l (record { block = data_b.most; line = omega (arith, low, size, lines) }) (nobodys g image sizes b l (inr data_b.least) (unwalked b some))
+      holds.own b l (record { block = data_b.most; line = omega (arith, low, size, lines) })
+      (nobodys g image sizes b l (inr data_b.least) (unwalked b some))
 
   fronts-are : (b : ℕ) → 0 < times b (flat_map chained_number (chain_from g image g.blocks first))
       → front (h b) ≡ take 204 (block_of g image b)
   fronts-are b some =
       let here : 0 < times b order = (let same = times-order g image b g.blocks first in omega (arith, same, some)) in
       let size = sizes.block_size in
-      front-is (h b) (block_of g image b) (long_block g image sizes long b ((met b).inside here)) (λ l low. free-line b l here (omega (arith, low, size)))
+      front-is (h b) (block_of g image b) (long_block g image sizes long b ((met b).inside here))
+      (λ l low. free-line b l here (omega (arith, low, size)))
 
   whole : (b : ℕ) → 0 < times b order → HoldsBlock o h b
   whole b some = record { at = λ l low. is_held (h b l) (line_of (block_of g image b) l) (free-line b l some low) }
@@ -472,7 +511,8 @@ module _ (o : Origin) (image : List ℕ) (sizes : IsGeometry o.sizes) (long : le
   unowned b low out unmet =
       sum_nothing (block_lines t.geometry) (λ l. one_if (nat_lt 0 (owner_of t (record { block = b; line = l }))))
       (λ l less.
-      (let here : owner_of t (record { block = b; line = l }) ≡ 0 = owner-at b l low (omega (arith, less, lines_t)) ∙ nobodys g image sizes b l out unmet in
+      (let here : owner_of t (record { block = b; line = l }) ≡ 0 = owner-at b l low (omega (arith, less, lines_t))
+      ∙ nobodys g image sizes b l out unmet in
       ap (λ (n : ℕ). one_if (nat_lt 0 n)) here))
 
   -- a block that an inode reaches has an owner
@@ -481,22 +521,29 @@ module _ (o : Origin) (image : List ℕ) (sizes : IsGeometry o.sizes) (long : le
   owner-some b among =
       let all = hits-map (λ n. n == b) (λ (m : Met). m.block) (walk g image) in
       let hit = any-hits (λ n. n == b) (map (λ m. m.block) (walk g image)) among in
-      let part = some-of (met_is b) (met_of g image) (λ n. not (is_free (inode_of g image n))) (inode_count g) 1 (omega (arith, all, hit)) in
-      let one = hits-map (met_is b) (λ (r : Reached). record { inode = part.part; block = r.block }) (reached g image (inode_of g image part.part)) in
+      let part =
+      some-of (met_is b) (met_of g image) (λ n. not (is_free (inode_of g image n))) (inode_count g) 1 (omega (arith, all, hit)) in
+      let one =
+      hits-map (met_is b) (λ (r : Reached). record { inode = part.part; block = r.block })
+      (reached g image (inode_of g image part.part)) in
       let low = part.low in
       let high = part.high in
       let some = part.some in
-      let u : IsUsedInode g image part.part = record { least = low; most = omega (arith, high); used = not_true (is_free (inode_of g image part.part)) part.passes } in
+      let u : IsUsedInode g image part.part =
+      record { least = low; most = omega (arith, high); used = not_true (is_free (inode_of g image part.part)) part.passes } in
       let is = owner-is g image sizes none part.part u b (omega (arith, one, some)) 0 in
       λ e. absurd (omega (arith, is, e, low))
 
   owned : (b : ℕ) → b < g.blocks → is_among (walked g image) b ≡ true → owned_lines t b ≢ 0
   owned b low among e =
-      let at : owner_of t (record { block = b; line = 0 }) ≡ line_owner g image (record { block = b; line = 0 }) = owner-at b 0 low (omega (arith, lines)) in
+      let at : owner_of t (record { block = b; line = 0 }) ≡ line_owner g image (record { block = b; line = 0 }) =
+      owner-at b 0 low (omega (arith, lines)) in
       let there : owner_of t (record { block = b; line = 0 }) ≢ 0 = λ z. owner-some b among (sym at ∙ z) in
       let flag : nat_lt 0 (owner_of t (record { block = b; line = 0 })) ≡ true = grind (nat_tests, arith, there) in
       let one : one_if (nat_lt 0 (owner_of t (record { block = b; line = 0 }))) ≡ 1 = ap one_if flag in
-      let sum = sum_some (block_lines t.geometry) (λ l. one_if (nat_lt 0 (owner_of t (record { block = b; line = l })))) (omega (arith, lines_t, lines)) (omega (arith, one)) in
+      let sum =
+      sum_some (block_lines t.geometry) (λ l. one_if (nat_lt 0 (owner_of t (record { block = b; line = l }))))
+      (omega (arith, lines_t, lines)) (omega (arith, one)) in
       absurd (omega (arith, sum, e))
 
   free-test : (b : ℕ) → is_free_block t b ≡ (nat_le g.first_data b && (nat_lt b g.blocks && (owned_lines t b == 0)))
@@ -509,7 +556,8 @@ module _ (o : Origin) (image : List ℕ) (sizes : IsGeometry o.sizes) (long : le
       let most = data_b.most in
       let one : nat_le g.first_data b ≡ true = grind (arith, least) in
       let two : nat_lt b g.blocks ≡ true = grind (arith, most) in
-      free-test b ∙ all_three (nat_le g.first_data b) (nat_lt b g.blocks) (owned_lines t b == 0) one two (eq-eqb (owned_lines t b) 0 (unowned b most (inr least) (unwalked b some)))
+      free-test b ∙ all_three (nat_le g.first_data b) (nat_lt b g.blocks) (owned_lines t b == 0) one two
+      (eq-eqb (owned_lines t b) 0 (unowned b most (inr least) (unwalked b some)))
 
   either : (s u : Bool) → (s || u) ≡ true → u ≡ false → s ≡ true
   either true u e f = refl
@@ -528,9 +576,13 @@ module _ (o : Origin) (image : List ℕ) (sizes : IsGeometry o.sizes) (long : le
   unfolding lost_flaw chain
   reached-if b gone least most =
       let both : is_among (walked g image ++ chained g image) b ≡ true =
-      not_false (is_among (walked g image ++ chained g image) b) (none_in_range (λ x. not (is_among (walked g image ++ chained g image) x)) g.first_data (g.blocks - g.first_data) lost b least (omega (arith, least, most))) in
-      let absent : is_among (chained g image) b ≡ false = among_times b (chained g image) (sym (times-order g image b g.blocks first) ∙ gone) in
-      either (is_among (walked g image) b) (is_among (chained g image) b) (sym (list_any-append (λ (n : ℕ). n == b) (walked g image) (chained g image)) ∙ both) absent
+      not_false (is_among (walked g image ++ chained g image) b)
+      (none_in_range (λ x. not (is_among (walked g image ++ chained g image) x)) g.first_data (g.blocks - g.first_data) lost b least
+      (omega (arith, least, most))) in
+      let absent : is_among (chained g image) b ≡ false =
+      among_times b (chained g image) (sym (times-order g image b g.blocks first) ∙ gone) in
+      either (is_among (walked g image) b) (is_among (chained g image) b)
+      (sym (list_any-append (λ (n : ℕ). n == b) (walked g image) (chained g image)) ∙ both) absent
 
   not-free : (b : ℕ) → times b order ≡ 0 → is_free_block t b ≡ false
   not-free b gone = free-test b ∙ by (nat_le g.first_data b) refl (nat_lt b g.blocks) refl where
@@ -581,21 +633,26 @@ module _ (o : Origin) (image : List ℕ) (sizes : IsGeometry o.sizes) (long : le
         let least = sizes.least_blocks in
         let block : (super_place g).block < g.blocks = omega (arith, super-block, least) in
         let unmet : is_among (walked g image) (super_place g).block ≡ false = ap (is_among (walked g image)) super-block ∙ zero_unmet in
-        is_held (h (super_place g).block ((super_place g).line + l)) (line_of (block_of g image (super_place g).block) ((super_place g).line + l))
-        (holds.own (super_place g).block ((super_place g).line + l) (record { block = block; line = line }) (nobodys g image sizes (super_place g).block ((super_place g).line + l) (inl (omega (arith, super-block))) unmet)));
+        is_held (h (super_place g).block ((super_place g).line + l))
+        (line_of (block_of g image (super_place g).block) ((super_place g).line + l))
+        (holds.own (super_place g).block ((super_place g).line + l) (record { block = block; line = line })
+        (nobodys g image sizes (super_place g).block ((super_place g).line + l) (inl (omega (arith, super-block))) unmet)));
   }
 
   pub can-mount : (m : Lent) → m ≡ nothing_lent → (s : Super) → IsSuper (superblock_of image) s → CanMount o h m t s.free.items
   can-mount m away s is =
       let read : free_list image ≡ s.free.items = free_list-read image s is in
-      let some : 1 ≤ length first = (let long_list = ap (λ (l : List ℕ). length l) read in let least = is.free.some in omega (arith, long_list, least)) in
+      let some : 1 ≤ length first =
+      (let long_list = ap (λ (l : List ℕ). length l) read in let least = is.free.some in omega (arith, long_list, least)) in
       record {
         table = tells.table;
         sizes = tells.geometry;
         lent = away;
         super = super-held;
         order = order;
-        chain = subst (λ (l : List ℕ). IsChain h l order) read (chain-held g image sizes long h g.blocks first on (ends g image sizes long first on some) fronts-are);
+        chain =
+            subst (λ (l : List ℕ). IsChain h l order) read
+            (chain-held g image sizes long h g.blocks first on (ends g image sizes long first on some) fronts-are);
         each = each;
         whole = whole;
       }
@@ -608,4 +665,5 @@ mounts-blocks image c t tells o e h holds s is m away =
     let at : Origin = record o { sizes = geometry_of image } in
     let same : o ≡ at = λ i. record o { sizes = e i } in
     subst (λ (x : Origin). CanMount x h m t s.free.items) (sym same)
-    (can-mount at image w.sized.sizes.bounds w.sized.sizes.length (none-bad (geometry_of image) image w.range w.twice) c.chain c.lost t tells h holds m away s is)
+    (can-mount at image w.sized.sizes.bounds w.sized.sizes.length
+    (none-bad (geometry_of image) image w.range w.twice) c.chain c.lost t tells h holds m away s is)

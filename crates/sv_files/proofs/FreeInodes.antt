@@ -1,5 +1,7 @@
 -- The lines of free inodes: they are nobody's, and zero bytes; and the cached numbers are free, each once.
-use Rattle.std.proofs.Common.{◌≡◌, ◌≤◌, ◌<◌, ◌+◌, ◌-◌, ◌*◌, ◌/◌, ◌%◌, ◌==◌, ◌&&◌, ◌||◌, ℕ, zero, suc, Bool, true, false, not, List, [], ◌∷◌, inl, inr, Option, Some, None, length, nat_le, nat_lt, replicate, unwrap_or, get_or, cond, arith, ap, refl, sym, subst, ◌∙◌}
+use Rattle.std.proofs.Common.{◌≡◌, ◌≤◌, ◌<◌, ◌+◌, ◌-◌, ◌*◌, ◌/◌, ◌%◌, ◌==◌, ◌&&◌, ◌||◌, ℕ, zero, suc, Bool, true, false, not, List, [], ◌∷◌}
+use Rattle.std.proofs.Common.{inl, inr, Option, Some, None, length, nat_le, nat_lt, replicate, unwrap_or, get_or, cond, arith, ap, refl}
+use Rattle.std.proofs.Common.{sym, subst, ◌∙◌}
 use Rattle.std.specs.List.{list_any, slice_range}
 use Rattle.std.proofs.lemmas.Bool.{cases_lt, eq-eqb, eqb-true, false≢true}
 use Rattle.std.proofs.lemmas.List.{ext_get_or, get_or_past, length-replicate}
@@ -35,9 +37,11 @@ index_zeros (suc n) zero = refl
 index_zeros (suc n) (suc k) = index_zeros n k
 
 all_zeros : (xs : List ℕ) → length xs ≡ 64 → ((k : ℕ) → get_or xs k 0 ≡ 0) → xs ≡ replicate 64 0
-all_zeros xs long each = ext_get_or 0 xs (replicate 64 0) (long ∙ sym (length-replicate {A = ℕ} 64 0)) (λ k low. each k ∙ sym (index_zeros 64 k))
+all_zeros xs long each =
+    ext_get_or 0 xs (replicate 64 0) (long ∙ sym (length-replicate {A = ℕ} 64 0)) (λ k low. each k ∙ sym (index_zeros 64 k))
 
-module _ (g : Geometry) (image : List ℕ) (sizes : IsGeometry g) (long : length image ≡ g.blocks * g.block_size) (none : first_bad g nothing_met (walk g image) ≡ None) (h : Held) (holds : HoldsLinesOf g image 0 h) where
+module _ (g : Geometry) (image : List ℕ) (sizes : IsGeometry g) (long : length image ≡ g.blocks * g.block_size)
+    (none : first_bad g nothing_met (walk g image) ≡ None) (h : Held) (holds : HoldsLinesOf g image 0 h) where
   lines : block_lines g ≡ 16
   lines = ap (λ (s : ℕ). s / 64) sizes.block_size
 
@@ -54,7 +58,9 @@ module _ (g : Geometry) (image : List ℕ) (sizes : IsGeometry g) (long : length
     by : (t : Bool) → list_any (is_at (inode_place g n).block) (reached g image (inode_of g image k)) ≡ t → t ≡ false
     by false e = refl
     by true e =
-        absurd (false≢true (sym (in-list g sizes n least most) ∙ reached-data g image sizes none k u (inode_place g n).block (any-hits (is_at (inode_place g n).block) (reached g image (inode_of g image k)) e)))
+        absurd (false≢true (sym (in-list g sizes n least most)
+        ∙ reached-data g image sizes none k u (inode_place g n).block
+        (any-hits (is_at (inode_place g n).block) (reached g image (inode_of g image k)) e)))
 
   not_there : (n k : ℕ) → 1 ≤ n → 1 ≤ k → is_free (inode_of g image n) ≡ true → is_used k ≡ true
       → stands_at g sizes (inode_place g n) k ≡ false
@@ -74,7 +80,8 @@ module _ (g : Geometry) (image : List ℕ) (sizes : IsGeometry g) (long : length
   nobody n least most free =
       ap (λ (o : Option ℕ). unwrap_or o 0)
       (find-never (owns g image (inode_place g n)) is_used (inode_count g) 1
-      (λ k low high is. neither (stands_at g sizes (inode_place g n) k) (list_any (is_at (inode_place g n).block) (reached g image (inode_of g image k))) (not_there n k least low free is)
+      (λ k low high is. neither (stands_at g sizes (inode_place g n) k)
+      (list_any (is_at (inode_place g n).block) (reached g image (inode_of g image k))) (not_there n k least low free is)
       (unreached n k least most (record { least = low; most = omega (arith, high); used = not_true (is_free (inode_of g image k)) is }))))
 
   within : (n : ℕ) → 1 ≤ n → n ≤ inode_count g → IsPlace g (inode_place g n)
@@ -95,11 +102,13 @@ module _ (g : Geometry) (image : List ℕ) (sizes : IsGeometry g) (long : length
       → line_of (block_of g image (inode_place g n).block) (inode_place g n).line ≡ replicate 64 0
   zero_bytes n least most free =
       let at = within n least most in
-      let block : length (block_of g image (inode_place g n).block) ≡ g.block_size = length-block g image (inode_place g n).block sizes long at.block in
+      let block : length (block_of g image (inode_place g n).block) ≡ g.block_size =
+      length-block g image (inode_place g n).block sizes long at.block in
       let size = sizes.block_size in
       let line = at.line in
       let cut = length-line_of (block_of g image (inode_place g n).block) (inode_place g n).line in
-      let same : line_of (block_of g image (inode_place g n).block) (inode_place g n).line ≡ inode_of g image n = same_line (inode_place g n) in
+      let same : line_of (block_of g image (inode_place g n).block) (inode_place g n).line ≡ inode_of g image n =
+      same_line (inode_place g n) in
       all_zeros (line_of (block_of g image (inode_place g n).block) (inode_place g n).line) (omega (arith, cut, block, size, line))
       (λ k. ap (λ (l : List ℕ). get_or l k 0) same ∙ zero_each (inode_of g image n) k free)
 
@@ -107,7 +116,8 @@ module _ (g : Geometry) (image : List ℕ) (sizes : IsGeometry g) (long : length
   pub free-line : (n : ℕ) → 1 ≤ n → n ≤ inode_count g → is_free (inode_of g image n) ≡ true
       → h (inode_place g n).block (inode_place g n).line ≡ Some (replicate 64 0)
   free-line n least most free =
-      holds.own (inode_place g n).block (inode_place g n).line (within n least most) (nobody n least most free) ∙ ap (λ (l : List ℕ). Some l) (zero_bytes n least most free)
+      holds.own (inode_place g n).block (inode_place g n).line (within n least most) (nobody n least most free)
+      ∙ ap (λ (l : List ℕ). Some l) (zero_bytes n least most free)
 
 -- ---- the cache
 
@@ -175,7 +185,8 @@ in_list : (used : List Bool) (n : ℕ) → is_free_inode used n ≡ true → IsI
 unfolding is_free_inode
 in_list used n is =
     let first = and_first (nat_lt 1 n) (not (get_or used (n - 1) true)) is in
-    let flag : get_or used (n - 1) true ≡ false = not_true (get_or used (n - 1) true) (and_second (nat_lt 1 n) (not (get_or used (n - 1) true)) is) in
+    let flag : get_or used (n - 1) true ≡ false =
+    not_true (get_or used (n - 1) true) (and_second (nat_lt 1 n) (not (get_or used (n - 1) true)) is) in
     let least : 2 ≤ n = grind (arith, first) in
     let most : n ≤ length used =
     elim (cases_lt (n - 1) (length used)) [
@@ -190,8 +201,10 @@ free_again used n least flag =
     let first : nat_lt 1 n ≡ true = grind (arith, least) in
     ap (λ (t : Bool). t && not (get_or used (n - 1) true)) first ∙ ap not flag
 
-module _ (o : Origin) (image : List ℕ) (sizes : IsGeometry o.sizes) (long : length image ≡ o.sizes.blocks * o.sizes.block_size) (none : first_bad o.sizes nothing_met (walk o.sizes image) ≡ None)
-    (cache : cache_flaw o.sizes image ≡ None) (kind : kind_flaw o.sizes image ≡ None) (used : List Bool) (flags : used ≡ used_flags o.sizes image) (h : Held) (holds : HoldsLinesOf o.sizes image 0 h) where
+module _ (o : Origin) (image : List ℕ) (sizes : IsGeometry o.sizes) (long : length image ≡ o.sizes.blocks * o.sizes.block_size)
+    (none : first_bad o.sizes nothing_met (walk o.sizes image) ≡ None)
+    (cache : cache_flaw o.sizes image ≡ None) (kind : kind_flaw o.sizes image ≡ None) (used : List Bool)
+    (flags : used ≡ used_flags o.sizes image) (h : Held) (holds : HoldsLinesOf o.sizes image 0 h) where
   abbrev g : Geometry
   g = o.sizes
 
@@ -222,7 +235,8 @@ module _ (o : Origin) (image : List ℕ) (sizes : IsGeometry o.sizes) (long : le
       let first = sizes.least_first in
       let size = sizes.block_size in
       let all : inode_count g ≡ (g.first_data - 2) * 1024 / 64 = ap (λ (s : ℕ). (g.first_data - 2) * s / 64) size in
-      let fits : is_misread 1 (inode_of g image 1) ≡ false = none_in_range (λ n. is_misread n (inode_of g image n)) 1 (inode_count g) kind 1 (omega arith) (omega (arith, all, first)) in
+      let fits : is_misread 1 (inode_of g image 1) ≡ false =
+      none_in_range (λ n. is_misread n (inode_of g image n)) 1 (inode_count g) kind 1 (omega arith) (omega (arith, all, first)) in
       not_false (is_free (inode_of g image 1)) (or_right (not (reads_inode (inode_of g image 1))) (not (is_free (inode_of g image 1))) fits)
 
   pub mounts : (s : Super) → IsSuper (superblock_of image) s → MountsInodes o h used s.inodes.items
@@ -246,4 +260,5 @@ mounts-inodes image w cache used flags o e h holds s is =
     let at : Origin = record o { sizes = geometry_of image } in
     let same : o ≡ at = λ i. record o { sizes = e i } in
     subst (λ (x : Origin). MountsInodes x h used s.inodes.items) (sym same)
-    (mounts at image w.sized.sizes.bounds w.sized.sizes.length (none-bad (geometry_of image) image w.range w.twice) cache w.kind used flags h holds s is)
+    (mounts at image w.sized.sizes.bounds w.sized.sizes.length
+    (none-bad (geometry_of image) image w.range w.twice) cache w.kind used flags h holds s is)

@@ -1,5 +1,6 @@
 -- How many of a list pass a test, where the list is joined from parts, one for each number of a range that passes another.
-use Rattle.std.proofs.Common.{◌≡◌, ◌≢◌, ◌≤◌, ◌<◌, ◌+◌, ◌++◌, ◌⊎◌, ◌||◌, ℕ, zero, suc, Bool, true, false, List, [], ◌∷◌, inl, inr, Option, Some, None, map, filter, find, flat_map, cond, arith, ap, refl, subst, ◌∙◌}
+use Rattle.std.proofs.Common.{◌≡◌, ◌≢◌, ◌≤◌, ◌<◌, ◌+◌, ◌++◌, ◌⊎◌, ◌||◌, ℕ, zero, suc, Bool, true, false, List, [], ◌∷◌, inl, inr, Option}
+use Rattle.std.proofs.Common.{Some, None, map, filter, find, flat_map, cond, arith, ap, refl, subst, ◌∙◌}
 use Rattle.std.specs.List.{AllByRecursion, list_any, range_with_len}
 use Rattle.std.proofs.lemmas.Bool.{cases_eq, false≢true}
 use Rattle.sv_super.specs.Count.{one_if}
@@ -84,7 +85,8 @@ module _ {X : Type 0} (t : X → Bool) (f : ℕ → List X) where
 
   one_step : (a k : ℕ) (F : List ℕ) (u : Bool) → (a ≡ k → u ≡ true) → (a ≢ k → hits t (f k) ≤ hits t (flat_map f F)) → (a ≡ k) ⊎ (a ≢ k)
       → hits t (f k) ≤ hits t (flat_map f (cond u (a ∷ F) F))
-  one_step a k F true here rest (inl e) = let same : hits t (f a) ≡ hits t (f k) = ap (λ (x : ℕ). hits t (f x)) e in omega (arith, same, joined a F)
+  one_step a k F true here rest (inl e) =
+      let same : hits t (f a) ≡ hits t (f k) = ap (λ (x : ℕ). hits t (f x)) e in omega (arith, same, joined a F)
   one_step a k F false here rest (inl e) = absurd (false≢true (here e))
   one_step a k F true here rest (inr ne) = let more = rest ne in omega (arith, more, joined a F)
   one_step a k F false here rest (inr ne) = rest ne
@@ -94,7 +96,8 @@ module _ {X : Type 0} (t : X → Bool) (f : ℕ → List X) where
       → hits t (f k) ≤ hits t (flat_map f (filter s (range_with_len a m)))
   one-of s zero a k low high is = absurd (omega (arith, low, high))
   one-of s (suc m) a k low high is =
-      one_step a k (filter s (range_with_len (a + 1) m)) (s a) (λ e. ap s e ∙ is) (λ ne. one-of s m (a + 1) k (omega (arith, low, ne)) (omega (arith, high)) is) (cases_eq a k)
+      one_step a k (filter s (range_with_len (a + 1) m)) (s a) (λ e. ap s e ∙ is)
+      (λ ne. one-of s m (a + 1) k (omega (arith, low, ne)) (omega (arith, high)) is) (cases_eq a k)
 
   two_step : (a k j : ℕ) (F : List ℕ) (u : Bool) → (a ≡ k → u ≡ true) → (a ≡ k → hits t (f j) ≤ hits t (flat_map f F))
       → (a ≢ k → hits t (f k) + hits t (f j) ≤ hits t (flat_map f F))
@@ -112,7 +115,8 @@ module _ {X : Type 0} (t : X → Bool) (f : ℕ → List X) where
       → hits t (f k) + hits t (f j) ≤ hits t (flat_map f (filter s (range_with_len a m)))
   two-of s zero a k j low less high is also = absurd (omega (arith, low, less, high))
   two-of s (suc m) a k j low less high is also =
-      two_step a k j (filter s (range_with_len (a + 1) m)) (s a) (λ e. ap s e ∙ is) (λ e. one-of s m (a + 1) j (omega (arith, e, less)) (omega (arith, high)) also)
+      two_step a k j (filter s (range_with_len (a + 1) m)) (s a) (λ e. ap s e ∙ is)
+      (λ e. one-of s m (a + 1) j (omega (arith, e, less)) (omega (arith, high)) also)
       (λ ne. two-of s m (a + 1) k j (omega (arith, low, ne)) less (omega (arith, high)) is also) (cases_eq a k)
 
   -- a hit is in a part
@@ -124,17 +128,26 @@ module _ {X : Type 0} (t : X → Bool) (f : ℕ → List X) where
     pub some : 0 < hits t (f part)
 
   later_part : (s : ℕ → Bool) (m a : ℕ) → IsPart s m (a + 1) → IsPart s (suc m) a
-  later_part s m a p = record { part = p.part; low = (let low = p.low in omega (arith, low)); high = (let high = p.high in omega (arith, high)); passes = p.passes; some = p.some }
+  later_part s m a p =
+      record {
+        part = p.part;
+        low = (let low = p.low in omega (arith, low));
+        high = (let high = p.high in omega (arith, high));
+        passes = p.passes;
+        some = p.some;
+      }
 
   some_step : (s : ℕ → Bool) (m a : ℕ) (F : List ℕ) (u : Bool) → s a ≡ u → (0 < hits t (flat_map f F) → IsPart s m (a + 1))
       → (hits t (f a) ≡ 0) ⊎ (hits t (f a) ≢ 0) → 0 < hits t (flat_map f (cond u (a ∷ F) F)) → IsPart s (suc m) a
   some_step s m a F true is rest (inl none) e = later_part s m a (rest (omega (arith, none, e, joined a F)))
-  some_step s m a F true is rest (inr some) e = record { part = a; low = omega arith; high = omega arith; passes = is; some = omega (arith, some) }
+  some_step s m a F true is rest (inr some) e =
+      record { part = a; low = omega arith; high = omega arith; passes = is; some = omega (arith, some) }
   some_step s m a F false is rest c e = later_part s m a (rest e)
 
   pub some-of : (s : ℕ → Bool) (m a : ℕ) → 0 < hits t (flat_map f (filter s (range_with_len a m))) → IsPart s m a
   some-of s zero a e = absurd (omega (arith, e))
-  some-of s (suc m) a e = some_step s m a (filter s (range_with_len (a + 1) m)) (s a) refl (some-of s m (a + 1)) (cases_eq (hits t (f a)) 0) e
+  some-of s (suc m) a e =
+      some_step s m a (filter s (range_with_len (a + 1) m)) (s a) refl (some-of s m (a + 1)) (cases_eq (hits t (f a)) 0) e
 
 -- what holds of all parts holds of the whole
 module _ {X : Type 0} (P : X → Type 0) where
@@ -160,7 +173,8 @@ module _ (p s : ℕ → Bool) where
   only_step : (a n : ℕ) (F : List ℕ) (u v : Bool) → s a ≡ u → p a ≡ v → (u ≡ true → v ≡ true → a ≡ n) → (a ≡ n → (u ≡ true) × (v ≡ true))
       → (a ≢ n → find p F ≡ Some n) → (a ≡ n) ⊎ (a ≢ n)
       → find p (cond u (a ∷ F) F) ≡ Some n
-  only_step a n F true true is so same here rest c = ap (λ (t : Bool). cond t (Some a) (find p F)) so ∙ ap (λ (x : ℕ). Some x) (same refl refl)
+  only_step a n F true true is so same here rest c =
+      ap (λ (t : Bool). cond t (Some a) (find p F)) so ∙ ap (λ (x : ℕ). Some x) (same refl refl)
   only_step a n F true false is so same here rest (inl e) = absurd (false≢true (here e).1)
   only_step a n F true false is so same here rest (inr ne) = ap (λ (t : Bool). cond t (Some a) (find p F)) so ∙ rest ne
   only_step a n F false v is so same here rest (inl e) = absurd (false≢true (here e).0)
@@ -171,8 +185,10 @@ module _ (p s : ℕ → Bool) where
       → ((k : ℕ) → a ≤ k → k < a + m → s k ≡ true → p k ≡ true → k ≡ n) → find p (filter s (range_with_len a m)) ≡ Some n
   find-only zero a n low high is so only = absurd (omega (arith, low, high))
   find-only (suc m) a n low high is so only =
-      only_step a n (filter s (range_with_len (a + 1) m)) (s a) (p a) refl refl (λ u v. only a (omega arith) (omega arith) u v) (λ e. (ap s e ∙ is, ap p e ∙ so))
-      (λ ne. find-only m (a + 1) n (omega (arith, low, ne)) (omega (arith, high)) is so (λ k below above u v. only k (omega (arith, below)) (omega (arith, above)) u v)) (cases_eq a n)
+      only_step a n (filter s (range_with_len (a + 1) m)) (s a) (p a) refl refl (λ u v. only a (omega arith) (omega arith) u v)
+      (λ e. (ap s e ∙ is, ap p e ∙ so))
+      (λ ne. find-only m (a + 1) n (omega (arith, low, ne)) (omega (arith, high)) is so
+      (λ k below above u v. only k (omega (arith, below)) (omega (arith, above)) u v)) (cases_eq a n)
 
   never_step : (a : ℕ) (F : List ℕ) (u : Bool) → (u ≡ true → p a ≡ false) → find p F ≡ None → find p (cond u (a ∷ F) F) ≡ None
   never_step a F true here rest = ap (λ (t : Bool). cond t (Some a) (find p F)) (here refl) ∙ rest
@@ -182,4 +198,5 @@ module _ (p s : ℕ → Bool) where
   pub find-never : (m a : ℕ) → ((k : ℕ) → a ≤ k → k < a + m → s k ≡ true → p k ≡ false) → find p (filter s (range_with_len a m)) ≡ None
   find-never zero a each = refl
   find-never (suc m) a each =
-      never_step a (filter s (range_with_len (a + 1) m)) (s a) (λ is. each a (omega arith) (omega arith) is) (find-never m (a + 1) (λ k low high is. each k (omega (arith, low)) (omega (arith, high)) is))
+      never_step a (filter s (range_with_len (a + 1) m)) (s a) (λ is. each a (omega arith) (omega arith) is)
+      (find-never m (a + 1) (λ k low high is. each k (omega (arith, low)) (omega (arith, high)) is))

@@ -1,5 +1,7 @@
 -- A used inode of an image stands for its node of the tree.
-use Rattle.std.proofs.Common.{◌≡◌, ◌≢◌, ◌≤◌, ◌<◌, ◌+◌, ◌-◌, ◌*◌, ◌%◌, ◌==◌, ℕ, zero, suc, Bool, true, false, not, List, ◌∷◌, inl, inr, Option, Some, None, IsSome, find, filter, length, map, nat_le, option_map, slice_index, cond, arith, ap, refl, sym, subst, ◌∙◌}
+use Rattle.std.proofs.Common.{◌≡◌, ◌≢◌, ◌≤◌, ◌<◌, ◌+◌, ◌-◌, ◌*◌, ◌%◌, ◌==◌, ℕ, zero, suc, Bool, true, false, not, List, ◌∷◌, inl, inr}
+use Rattle.std.proofs.Common.{Option, Some, None, IsSome, find, filter, length, map, nat_le, option_map, slice_index, cond, arith, ap, refl}
+use Rattle.std.proofs.Common.{sym, subst, ◌∙◌}
 use Rattle.std.specs.List.{list_any, range_with_len}
 use Rattle.std.specs.Cmp.{nat_cmp_total}
 use Rattle.std.specs.FinMap as fmap
@@ -52,7 +54,8 @@ pub record IsLeft (p : ℕ → Bool) (a m : ℕ) : Type 0 where
 left_step : (p : ℕ → Bool) (a m : ℕ) (u : Bool) (F : List ℕ) → p a ≡ u → (length F ≢ 0 → IsLeft p (a + 1) m)
     → length (cond u (a ∷ F) F) ≢ 0 → IsLeft p a (suc m)
 left_step p a m true F is rest some = record { number = a; high = omega arith; passes = is }
-left_step p a m false F is rest some = let l = rest some in record { number = l.number; high = (let high = l.high in omega (arith, high)); passes = l.passes }
+left_step p a m false F is rest some =
+    let l = rest some in record { number = l.number; high = (let high = l.high in omega (arith, high)); passes = l.passes }
 
 left_some : (p : ℕ → Bool) (m a : ℕ) → length (filter p (range_with_len a m)) ≢ 0 → IsLeft p a m
 left_some p zero a some = absurd (some refl)
@@ -65,8 +68,10 @@ is_some : (o : Option (List ℕ)) (x : List ℕ) → o ≡ Some x → IsSome o
 is_some None x e = let no : ⊥ = cc e in absurd no
 is_some (Some y) x e = refl
 
-module _ (o : Origin) (image : List ℕ) (sizes : IsGeometry o.sizes) (long : length image ≡ o.sizes.blocks * o.sizes.block_size) (none : first_bad o.sizes nothing_met (walk o.sizes image) ≡ None)
-    (past_none : past_size_flaw o.sizes image ≡ None) (n : ℕ) (u : IsUsedInode o.sizes image n) (h : Held) (holds : HoldsLinesOf o.sizes image n h) (body : InodeBody)
+module _ (o : Origin) (image : List ℕ) (sizes : IsGeometry o.sizes) (long : length image ≡ o.sizes.blocks * o.sizes.block_size)
+    (none : first_bad o.sizes nothing_met (walk o.sizes image) ≡ None)
+    (past_none : past_size_flaw o.sizes image ≡ None) (n : ℕ) (u : IsUsedInode o.sizes image n) (h : Held)
+    (holds : HoldsLinesOf o.sizes image n h) (body : InodeBody)
     (spelled : IsBody (inode_of o.sizes image n) body) (shows : ShowsBody (inode_of o.sizes image n) body) where
   abbrev g : Geometry
   g = o.sizes
@@ -95,19 +100,23 @@ module _ (o : Origin) (image : List ℕ) (sizes : IsGeometry o.sizes) (long : le
   met c slot ks spot some e = met-block per (image_numbers g image) (address_of inode) c slot ks spot some (sym (alike slot ks spot) ∙ e)
 
   held-block : (c : ℕ) → 0 < hits (is_at c) rs → HoldsBlock o h c
-  held-block c hit = record { at = λ l low. is_some (h c l) (line_of (block_of g image c) l) (held-line g image sizes none n u h holds c hit l low) }
+  held-block c hit =
+      record { at = λ l low. is_some (h c l) (line_of (block_of g image c) l) (held-line g image sizes none n u h holds c hit l low) }
 
   tree-is : IsTree o h a
   tree-is = record {
     whole = λ slot ks spot some. held-block (bmap.block_at h a slot ks) (met (bmap.block_at h a slot ks) slot ks spot some refl);
     once = λ slot ks other js spot that some same.
-        once-at per (image_numbers g image) (address_of inode) (bmap.block_at h a slot ks) slot other ks js spot that some (sym (alike slot ks spot)) (sym (alike other js that) ∙ sym same)
+        once-at per (image_numbers g image) (address_of inode) (bmap.block_at h a slot ks) slot other ks js spot that some
+        (sym (alike slot ks spot)) (sym (alike other js that) ∙ sym same)
         (reached-once g image sizes none n u (bmap.block_at h a slot ks));
   }
 
   in-data : HasDataBlocks g h a
   in-data = record {
-    at = λ slot ks spot some. data_of g (bmap.block_at h a slot ks) (reached-data g image sizes none n u (bmap.block_at h a slot ks) (met (bmap.block_at h a slot ks) slot ks spot some refl));
+    at =
+        λ slot ks spot some. data_of g (bmap.block_at h a slot ks)
+        (reached-data g image sizes none n u (bmap.block_at h a slot ks) (met (bmap.block_at h a slot ks) slot ks spot some refl));
   }
 
   -- ---- no indirect block is empty
@@ -116,7 +125,8 @@ module _ (o : Origin) (image : List ℕ) (sizes : IsGeometry o.sizes) (long : le
   unfolding past_size_flaw used_inodes
   nothing_past =
       let most = u.most in
-      none_passes (some_reached g image (is_past g image)) (λ k. not (is_free (inode_of g image k))) 1 (inode_count g) past_none n u.least (omega (arith, most)) (ap not u.used)
+      none_passes (some_reached g image (is_past g image)) (λ k. not (is_free (inode_of g image k))) 1 (inode_count g) past_none n u.least
+      (omega (arith, most)) (ap not u.used)
 
   full : (slot : ℕ) (ks : List ℕ) → IsSpot per slot ks → length ks < height_of slot
       → tree.block_at (image_numbers g image) (address_of inode) slot ks ≢ 0
@@ -124,8 +134,10 @@ module _ (o : Origin) (image : List ℕ) (sizes : IsGeometry o.sizes) (long : le
   full slot ks spot less there e =
       let c : ℕ = tree.block_at (image_numbers g image) (address_of inode) slot ks in
       let up : height_of slot - length ks ≢ 0 = omega (arith, less) in
-      let past : is_past g image (size_of inode) (record { height = height_of slot - length ks; page = page_at per (height_of slot) (first_page per slot) ks; block = c }) ≡ true =
-      ap (λ (t : Bool). cond t (nat_le (size_of inode) (page_at per (height_of slot) (first_page per slot) ks * g.block_size)) (length (filled g (block_of g image c)) == 0)) (ne_eqb (height_of slot - length ks) 0 up)
+      let past : is_past g image (size_of inode)
+      (record { height = height_of slot - length ks; page = page_at per (height_of slot) (first_page per slot) ks; block = c }) ≡ true =
+      ap (λ (t : Bool). cond t (nat_le (size_of inode) (page_at per (height_of slot) (first_page per slot) ks * g.block_size))
+      (length (filled g (block_of g image c)) == 0)) (ne_eqb (height_of slot - length ks) 0 up)
       ∙ eq-eqb (length (filled g (block_of g image c))) 0 e in
       let hit = met-spot per (image_numbers g image) (address_of inode) (is_past g image (size_of inode)) slot ks spot there past in
       absurd (false≢true (sym nothing_past ∙ hits-any (is_past g image (size_of inode)) rs hit))
@@ -135,14 +147,19 @@ module _ (o : Origin) (image : List ℕ) (sizes : IsGeometry o.sizes) (long : le
     some = λ slot ks spot less there.
         (let b : ℕ = bmap.block_at h a slot ks in
         let same : b ≡ tree.block_at (image_numbers g image) (address_of inode) slot ks = alike slot ks spot in
-        let found = left_some (λ k. not (image_number (block_of g image (tree.block_at (image_numbers g image) (address_of inode) slot ks)) k == 0)) per 0 (full slot ks spot less (λ e. there (same ∙ e))) in
+        let found =
+        left_some (λ k. not (image_number (block_of g image (tree.block_at (image_numbers g image) (address_of inode) slot ks)) k == 0))
+        per 0 (full slot ks spot less (λ e. there (same ∙ e))) in
         let low : found.number < per = (let high = found.high in omega (arith, high)) in
-        let number : number_in h b found.number ≡ image_numbers g image b found.number = held-number g image sizes none n u h holds b (met b slot ks spot there refl) found.number low in
-        let some : image_numbers g image (tree.block_at (image_numbers g image) (address_of inode) slot ks) found.number ≢ 0 = not_zero _ found.passes in (
+        let number : number_in h b found.number ≡ image_numbers g image b found.number =
+        held-number g image sizes none n u h holds b (met b slot ks spot there refl) found.number low in
+        let some : image_numbers g image (tree.block_at (image_numbers g image) (address_of inode) slot ks) found.number ≢ 0 =
+        not_zero _ found.passes in (
           found.number,
           (
             low,
-            λ e. some (ap (λ (x : ℕ). image_numbers g image x found.number) (sym same) ∙ sym number ∙ sym (child-some (number_in h) b found.number there) ∙ e),
+            λ e. some (ap (λ (x : ℕ). image_numbers g image x found.number) (sym same) ∙ sym number
+                ∙ sym (child-some (number_in h) b found.number there) ∙ e),
           ),
         ));
   }
@@ -150,14 +167,16 @@ module _ (o : Origin) (image : List ℕ) (sizes : IsGeometry o.sizes) (long : le
   -- ---- pages
 
   pages-are : (k : ℕ)
-      → fmap.get (node_of g image inode).pages k ≡ option_map (λ r. block_of g image r.block) (find (is_page_at g (image_numbers g image) (address_of inode) k) rs)
+      → fmap.get (node_of g image inode).pages k
+      ≡ option_map (λ r. block_of g image r.block) (find (is_page_at g (image_numbers g image) (address_of inode) k) rs)
   unfolding node_of
   pages-are k = fmap.get-from_entries nat_cmp_total (map (page_entry g image) (filter is_page rs)) k ∙ found_same g image k rs
 
   same-page : (p : PagePath) (page : ℕ) → IsPath g p → page_of g p ≡ page
       → bmap.page_block g h a page ≡ tree.page_block per (image_numbers g image) (address_of inode) page
   same-page p page is at =
-      block-of-path g (number_in h) (slice_index a) p page is at ∙ alike (slot_of p) (places_of p) (path-spot g p is) ∙ sym (block-of-path g (image_numbers g image) (address_of inode) p page is at)
+      block-of-path g (number_in h) (slice_index a) p page is at ∙ alike (slot_of p) (places_of p) (path-spot g p is)
+      ∙ sym (block-of-path g (image_numbers g image) (address_of inode) p page is at)
 
   by_found : (page : ℕ) (p : PagePath) → IsPath g p → page_of g p ≡ page → (f : Option Reached)
       → find (is_page_at g (image_numbers g image) (address_of inode) page) rs ≡ f
@@ -171,22 +190,34 @@ module _ (o : Origin) (image : List ℕ) (sizes : IsGeometry o.sizes) (long : le
             absurd (omega (arith, hit, gone))
       ]
   by_found page p is at (Some r) e =
-      let good = found-one (is_page_at g (image_numbers g image) (address_of inode) page) (IsGood g (image_numbers g image) (address_of inode)) rs r (all-good g (image_numbers g image) (address_of inode)) e in
-      let hit = (found-one (is_page_at g (image_numbers g image) (address_of inode) page) (λ (q : Reached). 0 < hits (is_at q.block) rs) rs r (all-hit rs rs (λ c. omega arith)) e).1 in
+      let good =
+      found-one (is_page_at g (image_numbers g image) (address_of inode) page) (IsGood g (image_numbers g image) (address_of inode)) rs r
+      (all-good g (image_numbers g image) (address_of inode)) e in
+      let hit =
+      (found-one (is_page_at g (image_numbers g image) (address_of inode) page) (λ (q : Reached). 0 < hits (is_at q.block) rs) rs r
+      (all-hit rs rs (λ c. omega arith)) e).1 in
       let flat : r.height ≡ 0 = eqb-true r.height 0 (and_first (r.height == 0) (r.page == page) good.0) in
       let same : r.page ≡ page = eqb-true r.page page (and_second (r.height == 0) (r.page == page) good.0) in
       let is_good = good.1 flat in
-      let block : tree.page_block per (image_numbers g image) (address_of inode) page ≡ r.block = ap (tree.page_block per (image_numbers g image) (address_of inode)) (sym same) ∙ is_good.1.1 in
+      let block : tree.page_block per (image_numbers g image) (address_of inode) page ≡ r.block =
+      ap (tree.page_block per (image_numbers g image) (address_of inode)) (sym same) ∙ is_good.1.1 in
       let inside : IsDataBlock g r.block = data_of g r.block (reached-data g image sizes none n u r.block hit) in
       subst (λ (x : ℕ). IsHeldPage g h x (block_of g image r.block)) (sym block)
-      (record { some = is_good.0; size = length-block g image r.block sizes long inside.most; lines = λ l low. held-line g image sizes none n u h holds r.block hit l low })
+      (record {
+        some = is_good.0;
+        size = length-block g image r.block sizes long inside.most;
+        lines = λ l low. held-line g image sizes none
+            n u h holds r.block hit l low;
+      })
 
   by_past : (page : ℕ) → page_limit per ≤ page → (f : Option Reached)
       → find (is_page_at g (image_numbers g image) (address_of inode) page) rs ≡ f
       → option_map (λ (r : Reached). block_of g image r.block) f ≡ None
   by_past page past None e = refl
   by_past page past (Some r) e =
-      let good = found-one (is_page_at g (image_numbers g image) (address_of inode) page) (IsGood g (image_numbers g image) (address_of inode)) rs r (all-good g (image_numbers g image) (address_of inode)) e in
+      let good =
+      found-one (is_page_at g (image_numbers g image) (address_of inode) page) (IsGood g (image_numbers g image) (address_of inode)) rs r
+      (all-good g (image_numbers g image) (address_of inode)) e in
       let flat : r.height ≡ 0 = eqb-true r.height 0 (and_first (r.height == 0) (r.page == page) good.0) in
       let same : r.page ≡ page = eqb-true r.page page (and_second (r.height == 0) (r.page == page) good.0) in
       let low = (good.1 flat).1.0 in
@@ -197,7 +228,9 @@ module _ (o : Origin) (image : List ℕ) (sizes : IsGeometry o.sizes) (long : le
     within = λ page low.
         (let p = has_path g page some_bytes low in
         subst (λ (x : Option (List ℕ)). IsPageOf g h (bmap.page_block g h a page) x) (sym (pages-are page))
-        (subst (λ (b : ℕ). IsPageOf g h b (option_map (λ (r : Reached). block_of g image r.block) (find (is_page_at g (image_numbers g image) (address_of inode) page) rs))) (sym (same-page p.0 page p.1.0 p.1.1))
+        (subst (λ (b : ℕ). IsPageOf g h b
+        (option_map (λ (r : Reached). block_of g image r.block)
+        (find (is_page_at g (image_numbers g image) (address_of inode) page) rs))) (sym (same-page p.0 page p.1.0 p.1.1))
         (by_found page p.0 p.1.0 p.1.1 (find (is_page_at g (image_numbers g image) (address_of inode) page) rs) refl)));
     past = λ page high. pages-are page ∙ by_past page high (find (is_page_at g (image_numbers g image) (address_of inode) page) rs) refl;
   }
@@ -228,4 +261,6 @@ stands-for image w n u o e h holds body is =
     let at : Origin = record o { sizes = geometry_of image } in
     let same : o ≡ at = λ i. record o { sizes = e i } in
     subst (λ (x : Origin). StandsFor x h body (node_of (geometry_of image) image (inode_of (geometry_of image) image n))) (sym same)
-    (stands at image w.sized.sizes.bounds w.sized.sizes.length (none-bad (geometry_of image) image w.range w.twice) w.past_size n u h holds body is.spelled (shows_inode (inode_of (geometry_of image) image n) (Used body) is))
+    (stands at image w.sized.sizes.bounds w.sized.sizes.length
+    (none-bad (geometry_of image) image w.range w.twice) w.past_size n u h holds body is.spelled
+    (shows_inode (inode_of (geometry_of image) image n) (Used body) is))

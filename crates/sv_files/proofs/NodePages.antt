@@ -1,5 +1,6 @@
 -- The pages of a tree, by their paths: what is met at height 0 is the block of its page, and the block of a page is met there.
-use Rattle.std.proofs.Common.{◌≡◌, ◌≢◌, ◌≤◌, ◌<◌, ◌+◌, ◌-◌, ◌*◌, ◌^◌, ◌==◌, ◌&&◌, ℕ, suc, Bool, true, false, not, List, inl, inr, length, nat_le, if◌then◌else◌, arith, ap, refl, sym, subst, ◌∙◌}
+use Rattle.std.proofs.Common.{◌≡◌, ◌≢◌, ◌≤◌, ◌<◌, ◌+◌, ◌-◌, ◌*◌, ◌^◌, ◌==◌, ◌&&◌, ℕ, suc, Bool, true, false, not, List, inl, inr, length}
+use Rattle.std.proofs.Common.{nat_le, if◌then◌else◌, arith, ap, refl, sym, subst, ◌∙◌}
 use Rattle.std.specs.List.{AllByRecursion}
 use Rattle.std.proofs.Math.Nat.{pow-suc, pow-zero}
 use Rattle.std.proofs.lemmas.Bool.{cases_eq, cases_lt, eq-eqb, false≢true}
@@ -7,7 +8,8 @@ use Rattle.sv_form.specs.declared.geometry.Geometry.{Geometry}
 use Rattle.sv_form.specs.declared.page_path.PagePath.{PagePath}
 use Rattle.sv_form.specs.declared.page_path.PagePath.TheVariants.{Direct, Single, Double, Triple}
 use Rattle.sv_form.specs.AddressTree.{Numbers, Reached, block_at, child, page_block, reached, reached_under}
-use Rattle.sv_form.specs.PagePath.{IsPath, block_numbers, double_slot, first_double, first_page, first_single, first_triple, height_of, page_limit, page_of, places_of, slot_of, slots}
+use Rattle.sv_form.specs.PagePath.{IsPath, block_numbers, double_slot, first_double, first_page, first_single, first_triple, height_of}
+use Rattle.sv_form.specs.PagePath.{page_limit, page_of, places_of, slot_of, slots}
 use Rattle.sv_form.proofs.ReaderLemmas.{child-some}
 use Rattle.sv_bmap.proofs.Paths.{path-is}
 use Rattle.sv_bmap.proofs.PageSpots.{path-spot}
@@ -102,7 +104,11 @@ module _ (g : Geometry) where
     level : (h page b : ℕ) → ((k : ℕ) → k < n → numbers b k ≢ 0 → AllByRecursion IsGood (under h page b k))
         → AllByRecursion IsGood (reached_under n numbers (suc h) page b)
     unfolding reached_under
-    level h page b each = (λ e. no_suc h e, all-of IsGood (under h page b) (some_at b) n 0 (λ k low high is. each k (omega (arith, high)) (named (numbers b k) is)))
+    level h page b each = (
+      λ e. no_suc h e,
+      all-of IsGood (under h page b) (some_at b) n 0
+          (λ k low high is. each k (omega (arith, high)) (named (numbers b k) is)),
+    )
 
     leaf : (page b : ℕ) → IsGood (record { height = 0; page = page; block = b }) → AllByRecursion IsGood (reached_under n numbers 0 page b)
     unfolding reached_under
@@ -122,7 +128,8 @@ module _ (g : Geometry) where
     single some =
         level 0 10 (address 10)
         (λ i low there. leaf (10 + i * n ^ 0) (numbers (address 10) i)
-        (good-path (Single i) (record { height = 0; page = 10 + i * n ^ 0; block = numbers (address 10) i }) low (sym (path-page (Single i) low)) there (child-some numbers (address 10) i some)))
+        (good-path (Single i) (record { height = 0; page = 10 + i * n ^ 0; block = numbers (address 10) i }) low
+        (sym (path-page (Single i) low)) there (child-some numbers (address 10) i some)))
 
     double : address 11 ≢ 0 → AllByRecursion IsGood (at 11)
     double some =
@@ -130,8 +137,11 @@ module _ (g : Geometry) where
         (λ i low there. level 0 (first_double n + i * n ^ 1) (numbers (address 11) i)
         (λ j less here.
         leaf (first_double n + i * n ^ 1 + j * n ^ 0) (numbers (numbers (address 11) i) j)
-        (good-path (Double i j) (record { height = 0; page = first_double n + i * n ^ 1 + j * n ^ 0; block = numbers (numbers (address 11) i) j }) (low, less) (sym (path-page (Double i j) (low, less))) here
-        (ap (λ (x : ℕ). child numbers x j) (child-some numbers (address 11) i some) ∙ child-some numbers (numbers (address 11) i) j there))))
+        (good-path (Double i j) (record
+        { height = 0; page = first_double n + i * n ^ 1 + j * n ^ 0; block = numbers (numbers (address 11) i) j }) (low, less) (sym
+        (path-page (Double i j) (low, less))) here
+        (ap (λ (x : ℕ). child numbers x j) (child-some numbers (address 11) i some)
+        ∙ child-some numbers (numbers (address 11) i) j there))))
 
     triple : address 12 ≢ 0 → AllByRecursion IsGood (at 12)
     triple some =
@@ -140,10 +150,16 @@ module _ (g : Geometry) where
         (λ j less here. level 0 (first_triple n + i * n ^ 2 + j * n ^ 1) (numbers (numbers (address 12) i) j)
         (λ k least last.
         leaf (first_triple n + i * n ^ 2 + j * n ^ 1 + k * n ^ 0) (numbers (numbers (numbers (address 12) i) j) k)
-        (good-path (Triple i j k) (record { height = 0; page = first_triple n + i * n ^ 2 + j * n ^ 1 + k * n ^ 0; block = numbers (numbers (numbers (address 12) i) j) k }) (low, less, least)
+        (good-path (Triple i j k) (record {
+          height = 0;
+          page = first_triple n + i * n ^ 2 + j * n ^ 1
+              + k * n ^ 0;
+          block = numbers (numbers (numbers (address 12) i) j) k;
+        }) (low, less, least)
         (sym (path-page (Triple i j k) (low, less, least))) last
         (ap (λ (x : ℕ). child numbers (child numbers x j) k) (child-some numbers (address 12) i some)
-        ∙ (ap (λ (x : ℕ). child numbers x k) (child-some numbers (numbers (address 12) i) j there) ∙ child-some numbers (numbers (numbers (address 12) i) j) k here))))))
+        ∙ (ap (λ (x : ℕ). child numbers x k) (child-some numbers (numbers (address 12) i) j there)
+        ∙ child-some numbers (numbers (numbers (address 12) i) j) k here))))))
 
     each-slot : (k : ℕ) → k < slots → address k ≢ 0 → AllByRecursion IsGood (at k)
     each-slot k below some =
@@ -162,7 +178,8 @@ module _ (g : Geometry) where
 
     pub all-good : AllByRecursion IsGood (reached n numbers address)
     unfolding reached
-    all-good = all-of IsGood at (λ k. not (address k == 0)) slots 0 (λ k low high is. each-slot k (omega (arith, high)) (named (address k) is))
+    all-good =
+        all-of IsGood at (λ k. not (address k == 0)) slots 0 (λ k low high is. each-slot k (omega (arith, high)) (named (address k) is))
 
     -- page k is met
     abbrev pub is_page_at : ℕ → Reached → Bool
@@ -175,6 +192,9 @@ module _ (g : Geometry) where
     pub page-met : (p : PagePath) (page : ℕ) → IsPath g p → page_of g p ≡ page → page_block n numbers address page ≢ 0
         → 1 ≤ hits (is_page_at page) (reached n numbers address)
     page-met p page is at some =
-        met-spot n numbers address (is_page_at page) (slot_of p) (places_of p) (path-spot g p is) (λ e. some (block-of-path p page is at ∙ e))
-        (both_true (height_of (slot_of p) - length (places_of p) == 0) (page_at n (height_of (slot_of p)) (first_page n (slot_of p)) (places_of p) == page)
-        (eq-eqb (height_of (slot_of p) - length (places_of p)) 0 (path-height p is)) (eq-eqb (page_at n (height_of (slot_of p)) (first_page n (slot_of p)) (places_of p)) page (path-page p is ∙ at)))
+        met-spot n numbers address (is_page_at page) (slot_of p) (places_of p) (path-spot g p is)
+        (λ e. some (block-of-path p page is at ∙ e))
+        (both_true (height_of (slot_of p) - length (places_of p) == 0)
+        (page_at n (height_of (slot_of p)) (first_page n (slot_of p)) (places_of p) == page)
+        (eq-eqb (height_of (slot_of p) - length (places_of p)) 0 (path-height p is))
+        (eq-eqb (page_at n (height_of (slot_of p)) (first_page n (slot_of p)) (places_of p)) page (path-page p is ∙ at)))

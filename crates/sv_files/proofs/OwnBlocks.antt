@@ -1,6 +1,7 @@
 -- The blocks that a used inode reaches are its own: each is met once, is a data block, and its lines are held where those of
 -- the inode are.
-use Rattle.std.proofs.Common.{◌≡◌, ◌≤◌, ◌<◌, ◌+◌, ◌*◌, ◌/◌, ◌%◌, ◌==◌, ◌&&◌, ◌||◌, ◌⊎◌, ℕ, Bool, true, false, not, List, [], ◌∷◌, inl, inr, Option, Some, None, All, slice_index, unwrap_or, cond, arith, ap, refl, sym, ◌∙◌}
+use Rattle.std.proofs.Common.{◌≡◌, ◌≤◌, ◌<◌, ◌+◌, ◌*◌, ◌/◌, ◌%◌, ◌==◌, ◌&&◌, ◌||◌, ◌⊎◌, ℕ, Bool, true, false, not, List, [], ◌∷◌, inl, inr}
+use Rattle.std.proofs.Common.{Option, Some, None, All, slice_index, unwrap_or, cond, arith, ap, refl, sym, ◌∙◌}
 use Rattle.std.specs.List.{AllByRecursion, list_any}
 use Rattle.std.proofs.lemmas.Bool.{cases_eq, cases_lt, eq-eqb, eqb-true, false≢true}
 use Rattle.std.proofs.lemmas.List.Elements.{All-from_recursion, All-weaker}
@@ -75,7 +76,8 @@ module _ (g : Geometry) where
   bad-data before [] b none some = absurd (omega (arith, some))
   bad-data before (m ∷ ms) b none some =
       let parts = bad_parts before m ms (is_new g before m.block) none in
-      data_step m.block b (hits (met_is b) ms) (m.block == b) refl (and_first (is_data_block g m.block) (not (before m.block)) parts.0) (bad-data (with_met before m.block) ms b parts.1) some
+      data_step m.block b (hits (met_is b) ms) (m.block == b) refl (and_first (is_data_block g m.block) (not (before m.block)) parts.0)
+      (bad-data (with_met before m.block) ms b parts.1) some
 
 -- each that is met is hit
 pub all-hit : (all xs : List Reached) → ((c : ℕ) → hits (is_at c) xs ≤ hits (is_at c) all)
@@ -119,7 +121,8 @@ module _ (g : Geometry) (image : List ℕ) (sizes : IsGeometry g) (none : first_
   two_apart n m b less u v one two =
       let least = u.least in
       let most = v.most in
-      let both = two-of (met_is b) (met_of g image) is_used (inode_count g) 1 n m least less (omega (arith, most)) (ap not u.used) (ap not v.used) in
+      let both =
+      two-of (met_is b) (met_of g image) is_used (inode_count g) 1 n m least less (omega (arith, most)) (ap not u.used) (ap not v.used) in
       let once = (bad-once g nothing_met (walk g image) b none).0 in
       absurd (omega (arith, both, once, one, two, met-hits b n, met-hits b m))
 
@@ -147,13 +150,16 @@ module _ (g : Geometry) (image : List ℕ) (sizes : IsGeometry g) (none : first_
       let least = u.least in
       let most = u.most in
       let any : list_any (is_at b) (blocks n) ≡ true = hits-any (is_at b) (blocks n) some in
-      let mine : owns g image p n ≡ true = ap (λ (t : Bool). ((inode_place g n).block == b && (inode_place g n).line == l) || t) any ∙ or_true ((inode_place g n).block == b && (inode_place g n).line == l) in
+      let mine : owns g image p n ≡ true =
+      ap (λ (t : Bool). ((inode_place g n).block == b && (inode_place g n).line == l) || t) any
+      ∙ or_true ((inode_place g n).block == b && (inode_place g n).line == l) in
       let only : (k : ℕ) → 1 ≤ k → k < 1 + inode_count g → is_used k ≡ true → owns g image p k ≡ true → k ≡ n =
       λ k low high is so.
       (let not_there = elsewhere g sizes p k low (omega (arith, high)) out in
       let reaches : list_any (is_at b) (blocks k) ≡ true = sym (ap (λ (t : Bool). t || list_any (is_at b) (blocks k)) not_there) ∙ so in
       reached-by-one k n b (used_is k low high is) u (any-hits (is_at b) (blocks k) reaches) some) in
-      ap (λ (o : Option ℕ). unwrap_or o 0) (find-only (owns g image p) is_used (inode_count g) 1 n least (omega (arith, most)) (ap not u.used) mine only)
+      ap (λ (o : Option ℕ). unwrap_or o 0)
+      (find-only (owns g image p) is_used (inode_count g) 1 n least (omega (arith, most)) (ap not u.used) mine only)
 
   -- ---- what is held
 
@@ -175,8 +181,10 @@ module _ (g : Geometry) (image : List ℕ) (sizes : IsGeometry g) (none : first_
 
     agree : All (AgreeAt (block_numbers g) (image_numbers g image) (number_in h)) (blocks n)
     agree =
-        All-weaker (λ (r : Reached). 0 < hits (is_at r.block) (blocks n)) (AgreeAt (block_numbers g) (image_numbers g image) (number_in h)) (λ r some high k low. held-number r.block some k low) (blocks n)
-        (All-from_recursion (λ (r : Reached). 0 < hits (is_at r.block) (blocks n)) (blocks n) (all-hit (blocks n) (blocks n) (λ c. omega arith)))
+        All-weaker (λ (r : Reached). 0 < hits (is_at r.block) (blocks n)) (AgreeAt (block_numbers g) (image_numbers g image) (number_in h))
+        (λ r some high k low. held-number r.block some k low) (blocks n)
+        (All-from_recursion (λ (r : Reached). 0 < hits (is_at r.block) (blocks n)) (blocks n)
+        (all-hit (blocks n) (blocks n) (λ c. omega arith)))
 
     -- the held lines have the tree of the image
     pub same-held : IsSameTree (block_numbers g) (image_numbers g image) (number_in h) (address_of (inode_of g image n))

@@ -1,6 +1,7 @@
 -- What stands at a spot of an address tree is met among the blocks that the tree reaches, and at no second spot where each is
 -- met once.
-use Rattle.std.proofs.Common.{◌≡◌, ◌≢◌, ◌≤◌, ◌<◌, ◌+◌, ◌-◌, ◌*◌, ◌^◌, ◌==◌, ℕ, zero, suc, Bool, true, not, List, [], ◌∷◌, inl, inr, filter, flat_map, length, get_or, arith, ap, refl, sym, subst, ◌∙◌}
+use Rattle.std.proofs.Common.{◌≡◌, ◌≢◌, ◌≤◌, ◌<◌, ◌+◌, ◌-◌, ◌*◌, ◌^◌, ◌==◌, ℕ, zero, suc, Bool, true, not, List, [], ◌∷◌, inl, inr, filter}
+use Rattle.std.proofs.Common.{flat_map, length, get_or, arith, ap, refl, sym, subst, ◌∙◌}
 use Rattle.std.specs.List.{range_with_len}
 use Rattle.std.proofs.lemmas.Bool.{cases_eq, cases_lt, eq-eqb, ne_eqb}
 use Rattle.sv_form.specs.AddressTree.{Numbers, Reached, block_at, child, down, reached, reached_under}
@@ -15,7 +16,8 @@ pub record IsWay (n h : ℕ) (ks : List ℕ) : Type 0 where
   pub places : (i : ℕ) → i < length ks → get_or ks i 0 < n
 
 pub way-rest : (n h k : ℕ) (ks : List ℕ) → IsWay n (suc h) (k ∷ ks) → IsWay n h ks
-way-rest n h k ks way = record { deep = (let deep = way.deep in omega (arith, deep)); places = λ i low. way.places (suc i) (omega (arith, low)) }
+way-rest n h k ks way =
+    record { deep = (let deep = way.deep in omega (arith, deep)); places = λ i low. way.places (suc i) (omega (arith, low)) }
 
 pub way-first : (n h k : ℕ) (ks : List ℕ) → IsWay n h (k ∷ ks) → k < n
 way-first n h k ks way = way.places 0 (omega arith)
@@ -55,7 +57,8 @@ module _ (n : ℕ) (numbers : Numbers) where
   met-under t zero page b (k ∷ ks) way some there is = let deep = way.deep in absurd (omega (arith, deep))
   met-under t (suc h) page b [] way some there is =
       let all : suc h - 0 ≡ suc h = omega arith in
-      let top : t (record { height = suc h; page = page; block = b }) ≡ true = ap (λ (x : ℕ). t (record { height = x; page = page; block = b })) (sym all) ∙ is in
+      let top : t (record { height = suc h; page = page; block = b }) ≡ true =
+      ap (λ (x : ℕ). t (record { height = x; page = page; block = b })) (sym all) ∙ is in
       let one : one_if (t (record { height = suc h; page = page; block = b })) ≡ 1 = ap one_if top in
       omega (arith, one)
   met-under t (suc h) page b (k ∷ ks) way some there is =
@@ -64,17 +67,22 @@ module _ (n : ℕ) (numbers : Numbers) where
       let same : down numbers (child numbers b k) ks ≡ down numbers (numbers b k) ks = ap (λ (x : ℕ). down numbers x ks) here in
       let named : numbers b k ≢ 0 = λ e. there (same ∙ ap (λ (x : ℕ). down numbers x ks) e ∙ down-hole numbers ks) in
       let high : h - length ks ≡ suc h - suc (length ks) = omega arith in
-      let now : t (record { height = h - length ks; page = page_at n h (page + k * n ^ h) ks; block = down numbers (numbers b k) ks }) ≡ true =
+      let now : t (record { height = h - length ks; page = page_at n h (page + k * n ^ h) ks; block = down numbers (numbers b k) ks })
+      ≡ true =
       ap (λ (x : ℕ). t (record { height = x; page = page_at n h (page + k * n ^ h) ks; block = down numbers (numbers b k) ks })) high
-      ∙ ap (λ (x : ℕ). t (record { height = suc h - suc (length ks); page = page_at n h (page + k * n ^ h) ks; block = x })) (sym same) ∙ is in
-      let part : 1 ≤ hits t (under h page b k) = met-under t h (page + k * n ^ h) (numbers b k) ks (way-rest n h k ks way) named (λ e. there (same ∙ e)) now in
-      let more : hits t (under h page b k) ≤ hits t (kids h page b) = one-of t (under h page b) (some_at b) n 0 k (omega arith) (omega (arith, low)) (no_zero (numbers b k) named) in
+      ∙ ap (λ (x : ℕ). t (record { height = suc h - suc (length ks); page = page_at n h (page + k * n ^ h) ks; block = x })) (sym same)
+      ∙ is in
+      let part : 1 ≤ hits t (under h page b k) =
+      met-under t h (page + k * n ^ h) (numbers b k) ks (way-rest n h k ks way) named (λ e. there (same ∙ e)) now in
+      let more : hits t (under h page b k) ≤ hits t (kids h page b) =
+      one-of t (under h page b) (some_at b) n 0 k (omega arith) (omega (arith, low)) (no_zero (numbers b k) named) in
       omega (arith, part, more)
 
   -- the block where some places lead
   at-block : (c h page b : ℕ) (ks : List ℕ) → IsWay n h ks → c ≢ 0 → b ≢ 0 → down numbers b ks ≡ c
       → 1 ≤ hits (is_at c) (reached_under n numbers h page b)
-  at-block c h page b ks way named some e = met-under (is_at c) h page b ks way some (λ z. named (sym e ∙ z)) (eq-eqb (down numbers b ks) c e)
+  at-block c h page b ks way named some e =
+      met-under (is_at c) h page b ks way some (λ z. named (sym e ∙ z)) (eq-eqb (down numbers b ks) c e)
 
   -- one place down
   record IsStep (c h page b k : ℕ) (ks : List ℕ) : Type 0 where
@@ -86,14 +94,23 @@ module _ (n : ℕ) (numbers : Numbers) where
   step-down : (c h page b k : ℕ) (ks : List ℕ) → IsWay n (suc h) (k ∷ ks) → c ≢ 0 → b ≢ 0 → down numbers b (k ∷ ks) ≡ c
       → IsStep c h page b k ks
   step-down c h page b k ks way named some e =
-      let same : down numbers (child numbers b k) ks ≡ down numbers (numbers b k) ks = ap (λ (x : ℕ). down numbers x ks) (child-some numbers b k some) in
+      let same : down numbers (child numbers b k) ks ≡ down numbers (numbers b k) ks =
+      ap (λ (x : ℕ). down numbers x ks) (child-some numbers b k some) in
       let leads : down numbers (numbers b k) ks ≡ c = sym same ∙ e in
       let there : numbers b k ≢ 0 = λ z. named (sym leads ∙ ap (λ (x : ℕ). down numbers x ks) z ∙ down-hole numbers ks) in
-      record { named = there; low = way-first n (suc h) k ks way; leads = leads; hit = at-block c h (page + k * n ^ h) (numbers b k) ks (way-rest n h k ks way) named there leads }
+      record {
+        named = there;
+        low = way-first n (suc h) k ks way;
+        leads = leads;
+        hit = at-block c h (page + k * n ^ h) (numbers b k) ks
+            (way-rest n h k ks way) named there leads;
+      }
 
   among-kids : (c h page b k : ℕ) (ks : List ℕ) → IsStep c h page b k ks
       → hits (is_at c) (under h page b k) ≤ hits (is_at c) (kids h page b)
-  among-kids c h page b k ks st = let low = st.low in one-of (is_at c) (under h page b) (some_at b) n 0 k (omega arith) (omega (arith, low)) (no_zero (numbers b k) st.named)
+  among-kids c h page b k ks st =
+      let low =
+      st.low in one-of (is_at c) (under h page b) (some_at b) n 0 k (omega arith) (omega (arith, low)) (no_zero (numbers b k) st.named)
 
   top-hits : (c h page b : ℕ) → hits (is_at c) (reached_under n numbers (suc h) page b) ≡ one_if (b == c) + hits (is_at c) (kids h page b)
   unfolding reached_under
@@ -112,7 +129,9 @@ module _ (n : ℕ) (numbers : Numbers) where
       → IsStep c h page b k ks → IsStep c h page b j js → ⊥
   apart c h page b k j ks js less few one two =
       let low = two.low in
-      let both = two-of (is_at c) (under h page b) (some_at b) n 0 k j (omega arith) less (omega (arith, low)) (no_zero (numbers b k) one.named) (no_zero (numbers b j) two.named) in
+      let both =
+      two-of (is_at c) (under h page b) (some_at b) n 0 k j (omega arith) less (omega (arith, low)) (no_zero (numbers b k) one.named)
+      (no_zero (numbers b j) two.named) in
       let first = one.hit in
       let second = two.hit in
       absurd (omega (arith, both, first, second, few, top-hits c h page b))
@@ -134,15 +153,18 @@ module _ (n : ℕ) (numbers : Numbers) where
   once-under c h page b [] [] named some few one two e f = refl
   once-under c zero page b [] (j ∷ js) named some few one two e f = let deep = two.deep in absurd (omega (arith, deep))
   once-under c zero page b (k ∷ ks) js named some few one two e f = let deep = one.deep in absurd (omega (arith, deep))
-  once-under c (suc h) page b [] (j ∷ js) named some few one two e f = absurd (twice c h page b j js e few (step-down c h page b j js two named some f))
-  once-under c (suc h) page b (k ∷ ks) [] named some few one two e f = absurd (twice c h page b k ks f few (step-down c h page b k ks one named some e))
+  once-under c (suc h) page b [] (j ∷ js) named some few one two e f =
+      absurd (twice c h page b j js e few (step-down c h page b j js two named some f))
+  once-under c (suc h) page b (k ∷ ks) [] named some few one two e f =
+      absurd (twice c h page b k ks f few (step-down c h page b k ks one named some e))
   once-under c (suc h) page b (k ∷ ks) (j ∷ js) named some few one two e f =
       let first = step-down c h page b k ks one named some e in
       let second = step-down c h page b j js two named some f in
       let same : k ≡ j = same-place c h page b k j ks js few first second in
       let more = among-kids c h page b k ks first in
       both_ends k j ks js same
-      (once-under c h (page + k * n ^ h) (numbers b k) ks js named first.named (omega (arith, more, few, top-hits c h page b)) (way-rest n h k ks one) (way-rest n h j js two) first.leads
+      (once-under c h (page + k * n ^ h) (numbers b k) ks js named first.named (omega (arith, more, few, top-hits c h page b))
+      (way-rest n h k ks one) (way-rest n h j js two) first.leads
       (ap (λ (x : ℕ). down numbers (numbers b x) js) same ∙ second.leads))
 
   -- ---- the addresses
@@ -165,7 +187,12 @@ module _ (n : ℕ) (numbers : Numbers) where
     slot-hits t slot low some = one-of t at some_slot slots 0 slot (omega arith) (omega (arith, low)) (no_zero (address slot) some)
 
     pub met-spot : (t : Reached → Bool) (slot : ℕ) (ks : List ℕ) → IsSpot n slot ks → block_at numbers address slot ks ≢ 0
-        → t (record { height = height_of slot - length ks; page = page_at n (height_of slot) (first_page n slot) ks; block = block_at numbers address slot ks }) ≡ true
+        → t (record {
+          height = height_of slot
+              - length ks;
+          page = page_at n (height_of slot) (first_page n slot) ks;
+          block = block_at numbers address slot ks;
+        }) ≡ true
         → 1 ≤ hits t (reached n numbers address)
     met-spot t slot ks spot there is =
         let some : address slot ≢ 0 = some-slot slot ks there in
@@ -175,7 +202,8 @@ module _ (n : ℕ) (numbers : Numbers) where
 
     pub met-block : (c slot : ℕ) (ks : List ℕ) → IsSpot n slot ks → c ≢ 0 → block_at numbers address slot ks ≡ c
         → 1 ≤ hits (is_at c) (reached n numbers address)
-    met-block c slot ks spot named e = met-spot (is_at c) slot ks spot (λ z. named (sym e ∙ z)) (eq-eqb (block_at numbers address slot ks) c e)
+    met-block c slot ks spot named e =
+        met-spot (is_at c) slot ks spot (λ z. named (sym e ∙ z)) (eq-eqb (block_at numbers address slot ks) c e)
 
     two-slots : (c slot other : ℕ) (ks js : List ℕ) → slot < other → IsSpot n slot ks → IsSpot n other js → c ≢ 0
         → block_at numbers address slot ks ≡ c → block_at numbers address other js ≡ c
@@ -184,7 +212,9 @@ module _ (n : ℕ) (numbers : Numbers) where
     two-slots c slot other ks js less spot that named e f few =
         let first : address slot ≢ 0 = some-slot slot ks (λ z. named (sym e ∙ z)) in
         let second : address other ≢ 0 = some-slot other js (λ z. named (sym f ∙ z)) in
-        let both = two-of (is_at c) at some_slot slots 0 slot other (omega arith) less (let low = that.among in omega (arith, low)) (no_zero (address slot) first) (no_zero (address other) second) in
+        let both =
+        two-of (is_at c) at some_slot slots 0 slot other (omega arith) less (let low = that.among in omega (arith, low))
+        (no_zero (address slot) first) (no_zero (address other) second) in
         let one = at-block c (height_of slot) (first_page n slot) (address slot) ks (way-of slot ks spot) named first e in
         let two = at-block c (height_of other) (first_page n other) (address other) js (way-of other js that) named second f in
         absurd (omega (arith, both, one, two, few))
@@ -211,6 +241,7 @@ module _ (n : ℕ) (numbers : Numbers) where
         let some : address slot ≢ 0 = some-slot slot ks (λ z. named (sym e ∙ z)) in
         let all = slot-hits (is_at c) slot spot.among some in (
           same,
-          once-under c (height_of slot) (first_page n slot) (address slot) ks js named some (omega (arith, all, few)) (way-of slot ks spot) (way-of slot js moved) e
+          once-under c (height_of slot) (first_page n slot) (address slot) ks js named some (omega (arith, all, few)) (way-of slot ks spot)
+              (way-of slot js moved) e
               (ap (λ (x : ℕ). block_at numbers address x js) same ∙ f),
         )

@@ -1,5 +1,6 @@
 -- What the first conditions say of single numbers and places: no number of the walk is bad, and no inode stands in another part.
-use Rattle.std.proofs.Common.{◌≡◌, ◌≢◌, ◌≤◌, ◌<◌, ◌+◌, ◌-◌, ◌*◌, ◌/◌, ◌%◌, ◌==◌, ◌&&◌, ◌⊎◌, ℕ, Bool, true, false, List, inl, inr, Option, Some, None, cond, arith, ap, refl, sym, ◌∙◌}
+use Rattle.std.proofs.Common.{◌≡◌, ◌≢◌, ◌≤◌, ◌<◌, ◌+◌, ◌-◌, ◌*◌, ◌/◌, ◌%◌, ◌==◌, ◌&&◌, ◌⊎◌, ℕ, Bool, true, false, List, inl, inr, Option}
+use Rattle.std.proofs.Common.{Some, None, cond, arith, ap, refl, sym, ◌∙◌}
 use Rattle.std.specs.Prelude.{option_and_then, if◌then◌else◌}
 use Rattle.std.proofs.lemmas.Bool.{eqb-true, false≢true}
 use Rattle.std.proofs.lemmas.Bool.Decides.{nat_tests}
@@ -40,7 +41,8 @@ module _ (g : Geometry) (sizes : IsGeometry g) where
 
   other_block : (n b : ℕ) → 1 ≤ n → n ≤ inode_count g → (b < 2) ⊎ (g.first_data ≤ b) → (inode_place g n).block ≢ b
   other_block n b least most (inl low) e = let is = block_is n in absurd (omega (arith, e, is, low))
-  other_block n b least most (inr high) e = let is = block_is n in let first = sizes.least_first in absurd (omega (arith, e, is, high, most, least, count, first))
+  other_block n b least most (inr high) e =
+      let is = block_is n in let first = sizes.least_first in absurd (omega (arith, e, is, high, most, least, count, first))
 
   -- no inode stands in a block of another part
   pub elsewhere : (p : Place) (n : ℕ) → 1 ≤ n → n ≤ inode_count g → (p.block < 2) ⊎ (g.first_data ≤ p.block) → stands_at p n ≡ false
