@@ -1,6 +1,7 @@
 -- New blocks in the address tree: a row of them hangs below one number of an indirect block, or below an address of the
 -- inode, and ends at a page.
 use Rattle.std.specs.Prelude.{◌≡◌, ◌≢◌, ◌<◌, ◌+◌, ◌-◌, ℕ, suc, List, length, take, slice_index}
+use Rattle.sv_form.specs.PagePath.{height_of}
 use Rattle.sv_store.specs.Held.{Held}
 use Rattle.sv_bmap.specs.Tree.{IsSpot, block_at, child}
 
@@ -8,7 +9,7 @@ use Rattle.sv_bmap.specs.Tree.{IsSpot, block_at, child}
 -- number that links it is number `place` of block `parent`, or, where none was there, the address itself.
 pub record Hangs (n : ℕ) (h new : Held) (a b : List ℕ) (slot : ℕ) (places : List ℕ) (above parent place : ℕ) (xs : List ℕ) : Type 0 where
   pub spot : IsSpot n slot places
-  pub deep : length places ≡ slot - 9
+  pub deep : length places ≡ height_of slot
   pub shape : above + length xs ≡ length places + 1
   pub some : 0 < length xs
   pub named : (i : ℕ) → i < length xs → slice_index xs i ≢ 0

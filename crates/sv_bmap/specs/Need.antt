@@ -1,7 +1,7 @@
 -- How many blocks are missing to make pages present.
 use Rattle.std.specs.Prelude.{◌==◌, ◌&&◌, ℕ, Bool, List, [], ◌∷◌, max, count_by, slice_index}
 use Rattle.std.specs.List.{range_with_len, sum_by}
-use Rattle.sv_form.specs.PagePath.{block_numbers, page_of}
+use Rattle.sv_form.specs.PagePath.{block_numbers, page_of, single_slot, double_slot, triple_slot}
 use Rattle.sv_form.specs.declared.geometry.Geometry.{Geometry}
 use Rattle.sv_form.specs.declared.page_path.PagePath.{PagePath}
 use Rattle.sv_form.specs.declared.page_path.PagePath.TheVariants.{Direct, Single, Double, Triple}
@@ -20,16 +20,16 @@ step from block = record { from = from; block = block }
 abbrev pub way : Geometry → Held → List ℕ → PagePath → List Step
 way g h a (Direct i) = step (page_of g (Direct i)) (slice_index a i) ∷ []
 way g h a (Single i) =
-    step (page_of g (Single 0)) (slice_index a 10) ∷ step (page_of g (Single i)) (child h (slice_index a 10) i) ∷ []
+    step (page_of g (Single 0)) (slice_index a single_slot) ∷ step (page_of g (Single i)) (child h (slice_index a single_slot) i) ∷ []
 way g h a (Double i j) =
-    step (page_of g (Double 0 0)) (slice_index a 11)
-    ∷ step (page_of g (Double i 0)) (child h (slice_index a 11) i)
-    ∷ step (page_of g (Double i j)) (child h (child h (slice_index a 11) i) j) ∷ []
+    step (page_of g (Double 0 0)) (slice_index a double_slot)
+    ∷ step (page_of g (Double i 0)) (child h (slice_index a double_slot) i)
+    ∷ step (page_of g (Double i j)) (child h (child h (slice_index a double_slot) i) j) ∷ []
 way g h a (Triple i j k) =
-    step (page_of g (Triple 0 0 0)) (slice_index a 12)
-    ∷ step (page_of g (Triple i 0 0)) (child h (slice_index a 12) i)
-    ∷ step (page_of g (Triple i j 0)) (child h (child h (slice_index a 12) i) j)
-    ∷ step (page_of g (Triple i j k)) (child h (child h (child h (slice_index a 12) i) j) k) ∷ []
+    step (page_of g (Triple 0 0 0)) (slice_index a triple_slot)
+    ∷ step (page_of g (Triple i 0 0)) (child h (slice_index a triple_slot) i)
+    ∷ step (page_of g (Triple i j 0)) (child h (child h (slice_index a triple_slot) i) j)
+    ∷ step (page_of g (Triple i j k)) (child h (child h (child h (slice_index a triple_slot) i) j) k) ∷ []
 
 -- In a range of pages a missing block is counted once: at the first page of the range that it stands above.
 abbrev pub counts_at : ℕ → ℕ → Step → Bool

@@ -39,7 +39,7 @@ byte_is o h body node pos stands k low =
 -- so many bytes of the node, below the greatest size
 node_bytes : (o : Origin) (h : Held) (body : InodeBody) (node : Node) → 0 < o.sizes.block_size → StandsFor o h body node → (at count : ℕ) → (0 < count → at + count ≤ greatest_size o.sizes)
     → bytes_of o.sizes.block_size node at count ≡ file_bytes o.sizes h body.addresses at count
-unfolding bytes_of file_bytes
+unfolding bytes_of file_byte file_bytes
 node_bytes o h body node pos stands at count fits =
     same_map (byte_of o.sizes.block_size node) (file_byte o.sizes h body.addresses) at at count
     (λ k low. byte_is o h body node pos stands (at + k) (let end : at + count ≤ greatest_size o.sizes = fits (omega arith) in omega arith))

@@ -86,7 +86,7 @@ file_byte-page g h a p j low =
 -- so many bytes of the file, and then some of the next page
 file_bytes_and : (g : Geometry) (h : Held) (a : List ℕ) (at n p from count : ℕ) → at + n ≡ p * g.block_size + from → from + count ≤ g.block_size
     → file_bytes g h a at (n + count) ≡ file_bytes g h a at n ++ part_bytes h (block_of g h a p) from count
-unfolding file_bytes part_bytes
+unfolding file_byte file_bytes part_bytes
 file_bytes_and g h a at n p from count here fits =
     ap (map (file_byte g h a)) (range_split at n count)
     ∙ (map-append (file_byte g h a) (range_with_len at n) (range_with_len (at + n) count)
@@ -98,7 +98,7 @@ file_bytes_and g h a at n p from count here fits =
 
 -- no bytes of a file
 pub file_bytes_none : (g : Geometry) (h : Held) (a : List ℕ) (at n : ℕ) → n ≡ 0 → file_bytes g h a at n ≡ []
-unfolding file_bytes
+unfolding file_byte file_bytes
 file_bytes_none g h a at n e = ap (λ q. map (file_byte g h a) (range_with_len at q)) e
 
 -- the bytes before the first page: none

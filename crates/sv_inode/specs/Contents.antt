@@ -1,6 +1,7 @@
 -- The bytes of a file, read out of the held lines by way of its address tree.
 use Rattle.std.specs.Prelude.{◌+◌, ◌-◌, ◌/◌, ◌%◌, ◌==◌, ℕ, zero, suc, List, [], Option, Some, None, map, slice_index, unwrap_or, if◌then◌else◌}
 use Rattle.std.specs.List.{range_with_len}
+use Rattle.sv_form.specs.FileBytes.{PageBytes, byte_at, bytes_at}
 use Rattle.sv_form.specs.declared.geometry.Geometry.{Geometry}
 use Rattle.sv_store.specs.Held.{Held}
 use Rattle.sv_bmap.specs.Tree.{no_hole, page_block}
@@ -42,10 +43,14 @@ abbrev pub ahead_block : Option (ℕ × ℕ) → Option ℕ
 ahead_block None = None
 ahead_block (Some present) = Some present.1
 
--- byte k of the file: it is in the page k / block size
+-- the reader of the file's pages
+abbrev pub page_bytes : Geometry → Held → List ℕ → PageBytes
+page_bytes g h a = λ page r. part_byte h (block_of g h a page) r
+
+-- byte k of the file
 unfoldable pub file_byte : Geometry → Held → List ℕ → ℕ → ℕ
-file_byte g h a k = part_byte h (block_of g h a (k / g.block_size)) (k % g.block_size)
+file_byte g h a k = byte_at g.block_size (page_bytes g h a) k
 
 -- so many bytes of the file, from one on
 unfoldable pub file_bytes : Geometry → Held → List ℕ → ℕ → ℕ → List ℕ
-file_bytes g h a at count = map (file_byte g h a) (range_with_len at count)
+file_bytes g h a at count = bytes_at g.block_size (page_bytes g h a) at count

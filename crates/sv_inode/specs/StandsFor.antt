@@ -4,7 +4,7 @@ use Rattle.std.specs.Ordering.{nat_cmp}
 use Rattle.std.specs.FinMap as fmap
 use Rattle.sv_form.specs.Geometry.{IsDataBlock}
 use Rattle.sv_form.specs.Node.{Node}
-use Rattle.sv_form.specs.PagePath.{block_numbers, page_limit}
+use Rattle.sv_form.specs.PagePath.{block_numbers, height_of, page_limit}
 use Rattle.sv_form.specs.declared.geometry.Geometry.{Geometry}
 use Rattle.sv_form.specs.declared.inode.InodeBody.{InodeBody}
 use Rattle.sv_store.specs.Held.{Held, Origin, line_of}
@@ -39,7 +39,7 @@ pub record HasDataBlocks (g : Geometry) (h : Held) (a : List ℕ) : Type 0 where
 
 -- each indirect block has a number that is not 0: it stands at a spot below which there are spots
 pub record HasNoEmptyBlock (g : Geometry) (h : Held) (a : List ℕ) : Type 0 where
-  pub some : (slot : ℕ) (ks : List ℕ) → IsSpot (block_numbers g) slot ks → length ks < slot - 9 → block_at h a slot ks ≢ 0
+  pub some : (slot : ℕ) (ks : List ℕ) → IsSpot (block_numbers g) slot ks → length ks < height_of slot → block_at h a slot ks ≢ 0
       → (k : ℕ) × ((k < block_numbers g) × (child h (block_at h a slot ks) k ≢ 0))
 
 -- the inode stands for the node
