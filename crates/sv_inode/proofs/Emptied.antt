@@ -83,9 +83,13 @@ lines-since h {k} {x} {x'} {xs} {ys} e same lines =
     let Q : List ℕ → Type 0 = λ q. SameLines k (Both x' (only q h)) in
     subst P e (subst Q same lines)
 
+pub others-since : {k x x' : Held} {xs ys : List ℕ} → x' ≡ x → ys ≡ xs → ((c l : ℕ) → times c ys ≡ 0 → k c l ≡ x' c l)
+    → (c l : ℕ) → times c xs ≡ 0 → k c l ≡ x c l
+others-since e same others = λ c l none. others c l (ap (times c) same ∙ none) ∙ ap (λ q. q c l) e
+
 -- ---- what the stakes hold afterwards
 
-less-is : (xs : List ℕ) (h : Held) (c l : ℕ) (t : Bool) → nat_lt 0 (times c xs) ≡ t → less_all xs h c l ≡ cond t None (h c l)
+pub less-is : (xs : List ℕ) (h : Held) (c l : ℕ) (t : Bool) → nat_lt 0 (times c xs) ≡ t → less_all xs h c l ≡ cond t None (h c l)
 unfolding less_all
 less-is xs h c l t e = ap (λ q. cond q None (h c l)) e
 

@@ -3,6 +3,7 @@ mod Emptied
 mod FourPages
 mod GivenBack
 mod Nodes
+mod OwnLines
 mod PageMade
 mod PageParts
 mod PagesHeld

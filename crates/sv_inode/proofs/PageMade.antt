@@ -77,7 +77,7 @@ lt-or i j apart_of = by (nat_lt i j) refl
     by false e = inr (omega (arith, not i j e, apart_of))
 
 -- where a block stands that is named
-place-of : (c : ℕ) (xs : List ℕ) → 0 < times c xs → (i : ℕ) × ((i < length xs) × (get_or xs i 0 ≡ c))
+pub place-of : (c : ℕ) (xs : List ℕ) → 0 < times c xs → (i : ℕ) × ((i < length xs) × (get_or xs i 0 ≡ c))
 place-of c [] is = absurd (omega (arith, is, times-nil c))
 place-of c (x ∷ xs) is = by (x == c) refl (place-of c xs)
   where
@@ -177,7 +177,7 @@ module _ {S : Type 0} {held : S → Held} {lent : S → Lent} {origin : S → Or
       subst P (sym p) (subst Q (sym q) (subst W (sym e) (attach-here a page ns ps left all sizes hole count can moved pairs)))
 
   -- what is held once the parts were taken in
-  new-lines : {mine new : Held} (ns : List ℕ) (ps : List S) → ArePaired held lent origin forced o h ns ps → HoldsAll mine (map held ps) new → SameLines new (Both mine (only ns h))
+  pub new-lines : {mine new : Held} (ns : List ℕ) (ps : List S) → ArePaired held lent origin forced o h ns ps → HoldsAll mine (map held ps) new → SameLines new (Both mine (only ns h))
   new-lines {mine} {new} ns ps pairs holds = record { at = λ c l. by c l (is_some (mine c l)) refl (nat_lt 0 (times c ns)) refl (is_some (h c l)) refl ∙ sym (is_some-Both mine (only ns h) c l) }
     where
       in_part : (c l : ℕ) → (times c ns ≡ 0) ⊎ (is_some (h c l) ≡ false) → (i : ℕ) → i < length (map held ps) → part (map held ps) i c l ≡ None

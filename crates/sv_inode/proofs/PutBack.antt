@@ -1,5 +1,5 @@
 -- What a write took first, and what of it is used and what is free again.
-use Rattle.std.proofs.Common.{◌≡◌, ◌≤◌, ◌<◌, ◌+◌, ◌/◌, ℕ, Bool, true, false, cond, List, [], length, take, drop, None, Err, IsSome, is_some, nat_lt, refl, sym, ap, ◌∙◌, subst, arith}
+use Rattle.std.proofs.Common.{◌≡◌, ◌≤◌, ◌<◌, ◌+◌, ◌/◌, ℕ, Bool, true, false, cond, List, [], length, take, drop, max, None, Err, IsSome, is_some, nat_lt, refl, sym, ap, ◌∙◌, subst, arith}
 use Rattle.std.specs.List.{All}
 use Rattle.std.proofs.lemmas.Bool.Decides.{nat_tests}
 use Rattle.std.proofs.lemmas.Bool.{false≢true}
@@ -15,6 +15,7 @@ use Rattle.sv_store.proofs.Holding.{is_some-Both}
 use Rattle.sv_super.specs.Core.{Core, free_times, left_of}
 use Rattle.sv_super.specs.Count.{times}
 use Rattle.sv_super.proofs.Counts.{times-append, times-nil}
+use Rattle.sv_inode.specs.Frames.{KeepsRoom}
 use Rattle.sv_inode.specs.Truncate.{AreBlocks, CanFreeAll, FreesAll, HoldsInode, IsCutFrom, IsPart, less_all, names_of, only}
 use Rattle.sv_inode.specs.Write.{PutsBack, TakesBlocks, Uses, done_by, stop_of, write_need}
 use Rattle.sv_inode.specs.StandsFor.{StandsFor}
@@ -228,3 +229,14 @@ none-done T all refusal e = ap (λ q. done_by {T = T} all (Err q)) e ∙ by refu
     by : (r : Refusal) → done_by {T = T} all (Err (stop_of r)) ≡ 0
     by refused.Fault = refl
     by refused.NoMemory = refl
+
+-- ---- room for blocks that are set aside
+
+pub room-kept : {all done spare : ℕ} → all ≡ 0 → done ≡ 0 → KeepsRoom all done spare spare
+room-kept e f = record { most = omega (arith, e); least = omega (arith, e, f) }
+
+pub room-used : {all all' done done' old mid new : ℕ} → mid ≡ max old all → all' ≡ all → done' ≡ done → KeepsRoom all' done' mid new → KeepsRoom all done old new
+room-used e f d kept = record { most = omega (arith, e, f, kept.most); least = omega (arith, e, f, d, kept.least) }
+
+pub room-unused : {all done old new : ℕ} → KeepsRoom all 0 old new → done ≡ 0 → KeepsRoom all done old new
+room-unused kept e = record { most = kept.most; least = omega (arith, kept.least, e) }

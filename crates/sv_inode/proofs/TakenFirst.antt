@@ -1,4 +1,5 @@
 -- Free blocks that are taken one after another, and given back.
+use Rattle.std.proofs.Common.{Result, Ok, Err, OnErr}
 use Rattle.std.proofs.Common.{◌≡◌, ◌+◌, ◌∷◌, ◌==◌, inl, inr, [], ℕ, Bool, true, false, cond, List, length, None, is_some, nat_lt, get_or, length-append, refl, sym, ap, ◌∙◌, subst, arith}
 use Rattle.std.specs.List.{All}
 use Rattle.std.proofs.lemmas.Bool.{false≢true}
@@ -9,8 +10,9 @@ use Rattle.sv_super.specs.Calls.{Takes}
 use Rattle.sv_super.specs.Core.{Core, IsSound, free_times, left_of}
 use Rattle.sv_super.specs.Count.{one_if, times}
 use Rattle.sv_super.proofs.Counts.{times-append, times-cons, times-snoc}
+use Rattle.sv_inode.specs.Frames.{KeepsRoom}
 use Rattle.sv_inode.specs.Truncate.{AreBlocks, CanFreeAll, FreesAll, IsCut, IsCutFrom, IsPart, less_all, names_of, only}
-use Rattle.sv_inode.specs.Write.{ComesBack, TakesCut}
+use Rattle.sv_inode.specs.Write.{IsSupplied, ComesBack, TakesCut}
 use Rattle.sv_inode.proofs.GivenBack.{cut-more, less-at, only-at}
 
 -- ---- one block is taken
@@ -114,3 +116,16 @@ comes-back {held = held} {first = first} {mid = mid} {cuts = cuts} from taken fr
   others = λ c l gone. (let none : times c (names_of cuts) ≡ 0 = omega (arith, taken c, gone) in
       others c l none ∙ (ap (λ q. q c l) from.left ∙ less-at (names_of cuts) (held first.stake) c l none));
 }
+
+-- ---- by an equal count
+
+pub supplied-since : {S : Type 0} {held : S → Held} {lent : S → Lent} {origin : S → Origin} {forced : S → Bool} {faults : S → ℕ} {count need : ℕ} {old new : Core S} {cuts : List (ℕ × S)}
+    → count ≡ need → IsSupplied held lent origin forced faults count old new cuts → IsSupplied held lent origin forced faults need old new cuts
+supplied-since e is = record { from = is.from; are = is.are; taken = is.taken; as_many = is.as_many ∙ e; left = is.left }
+
+pub room-since : {count need old new : ℕ} → count ≡ need → KeepsRoom count 0 old new → KeepsRoom need 0 old new
+room-since {old = old} {new = new} e kept = (let P : ℕ → Type 0 = λ q. KeepsRoom q 0 old new in subst P e kept)
+
+pub err-weaker : {T E : Type 0} {P Q : Type 0} (r : Result T E) → (P → Q) → OnErr r P → OnErr r Q
+err-weaker (Ok x) f p = p
+err-weaker (Err x) f p = f p

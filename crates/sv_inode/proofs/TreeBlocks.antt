@@ -11,6 +11,8 @@ use Rattle.sv_form.specs.declared.geometry.Geometry.{Geometry}
 use Rattle.sv_store.specs.Held.{Held, Origin, HoldsBlock}
 use Rattle.sv_bmap.specs.Order.{blocks_below, blocks_of}
 use Rattle.sv_bmap.specs.Tree.{IsSpot, IsTree, block_at, child, down}
+use Rattle.sv_bmap.proofs.Empty.{down-hole}
+use Rattle.sv_bmap.proofs.Paths.{child-hole}
 use Rattle.sv_bmap.proofs.Orders.{below-hole, below-there, page-below}
 use Rattle.sv_super.specs.Count.{one_if, sum_below, times}
 use Rattle.sv_super.proofs.Counts.{apart, few, one-le, sum-more, sum-zero, times-append, times-cons, times-nil, times-snoc}
@@ -46,6 +48,15 @@ sum-once (suc n) f each same =
     by true e true d few_of more =
         (let q = more (is-more (sum_below n f) d) in
         absurd (omega (arith, same q.0 n (omega (arith, q.1.0)) (omega arith) q.1.1 (is-more (f n) e), q.1.0)))
+
+sum-least : (n : ℕ) (f : ℕ → ℕ) (k : ℕ) → k < n → f k ≤ sum_below n f
+unfolding sum_below
+sum-least zero f k low = absurd (omega (arith, low))
+sum-least (suc n) f k low = by (k == n) refl (sum-least n f k)
+  where
+    by : (t : Bool) → (k == n) ≡ t → (k < n → f k ≤ sum_below n f) → f k ≤ sum_below n f + f n
+    by true e rest = omega (arith, ap f (eqb-true k n e))
+    by false e rest = (let differs : k ≢ n = apart k n e in omega (arith, rest (omega (arith, low))))
 
 flat-sum : (b : ℕ) (f : ℕ → List ℕ) (n : ℕ) → times b (flat_map f (range_with_len 0 n)) ≡ sum_below n (λ k. times b (f k))
 flat-sum b f zero = times-nil b ∙ sym (sum-zero (λ k. times b (f k)))
@@ -213,6 +224,50 @@ tree-once {o} {h} {a} tree b =
         (let p = below-some n h (slot - 9) (get_or a slot 0) b one in
         let s = below-some n h (other - 9) (get_or a other 0) b two in
         (tree.once slot p.0 other s.0 (way-spot n slot p.0 low p.1.0) (way-spot n other s.0 below s.1.0) (λ z. p.1.1.1 (sym p.1.1.0 ∙ z)) (p.1.1.0 ∙ sym s.1.1.0)).0)
+
+alike : (x y : ℕ) → x ≡ y → (x == y) ≡ true
+alike x y h = grind (nat_tests, arith)
+
+way-tail : (n d k : ℕ) (ks : List ℕ) → IsWay n (suc d) (k ∷ ks) → IsWay n d ks
+way-tail n d k ks way = record { deep = omega (arith, way.deep); places = λ i low. way.places (suc i) (omega (arith, low)) }
+
+-- what a way leads to stands in the list
+some-below : (n : ℕ) (h : Held) (d : ℕ) (ks : List ℕ) (r b : ℕ) → IsWay n d ks → down h r ks ≡ b → b ≢ 0
+    → 0 < times b (blocks_below n h d r)
+some-below n h zero (k ∷ ks) r b way at some = absurd (omega (arith, way.deep))
+some-below n h zero [] r b way at some = by (r == 0) refl
+  where
+    by : (t : Bool) → (r == 0) ≡ t → 0 < times b (blocks_below n h 0 r)
+    by true e = absurd (some (sym at ∙ eqb-true r 0 e))
+    by false e = omega (arith, times-page n h r b false e, ap one_if (alike r b at))
+some-below n h (suc d) [] r b way at some = by (r == 0) refl
+  where
+    by : (t : Bool) → (r == 0) ≡ t → 0 < times b (blocks_below n h (suc d) r)
+    by true e = absurd (some (sym at ∙ eqb-true r 0 e))
+    by false e = omega (arith, times-below n h d r b (apart r 0 e), ap one_if (alike r b at))
+some-below n h (suc d) (k ∷ ks) r b way at some =
+    by (r == 0) refl (some-below n h d ks (child h r k) b (way-tail n d k ks way) at some)
+  where
+    by : (t : Bool) → (r == 0) ≡ t → 0 < times b (blocks_below n h d (child h r k)) → 0 < times b (blocks_below n h (suc d) r)
+    by true e more = absurd (some (sym at ∙ down-hole h (child h r k) ks (child-hole h r k (eqb-true r 0 e))))
+    by false e more =
+        omega (
+          arith,
+          more,
+          times-below n h d r b (apart r 0 e),
+          sum-least n (λ j. times b (blocks_below n h d (child h r j))) k (way.places 0 (omega arith)),
+        )
+
+-- a block of the tree stands in the list
+pub some-tree : (g : Geometry) (h : Held) (a : List ℕ) (b slot : ℕ) (ks : List ℕ) → IsSpot (block_numbers g) slot ks
+    → block_at h a slot ks ≡ b → b ≢ 0 → 0 < times b (blocks_of g h a)
+some-tree g h a b slot ks spot at some =
+    omega (
+      arith,
+      blocks-sum g h a b,
+      sum-least 13 (below_slot (block_numbers g) h a b) slot spot.among,
+      some-below (block_numbers g) h (slot - 9) ks (get_or a slot 0) b (record { deep = spot.deep; places = spot.places }) at some,
+    )
 
 pub tree-blocks : {o : Origin} {h : Held} {a : List ℕ} → IsTree o h a → HasDataBlocks o.sizes h a → AreBlocks o h (blocks_of o.sizes h a)
 tree-blocks {o} {h} {a} tree data_blocks = record {

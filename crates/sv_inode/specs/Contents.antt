@@ -1,5 +1,6 @@
 -- The bytes of a file, read out of the held lines by way of its address tree.
-use Rattle.std.specs.Prelude.{◌+◌, ◌-◌, ◌/◌, ◌%◌, ◌==◌, ℕ, zero, suc, List, [], Option, Some, None, map, slice_index, unwrap_or, if◌then◌else◌}
+use Rattle.std.specs.Prelude.{◌+◌, ◌-◌, ◌/◌, ◌%◌, ◌==◌, ℕ, zero, suc, List, [], Option, Some, None, map, slice_index, unwrap_or}
+use Rattle.std.specs.Prelude.{if◌then◌else◌}
 use Rattle.std.specs.List.{range_with_len}
 use Rattle.sv_form.specs.FileBytes.{PageBytes, byte_at, bytes_at}
 use Rattle.sv_form.specs.declared.geometry.Geometry.{Geometry}

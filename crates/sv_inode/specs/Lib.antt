@@ -1,4 +1,5 @@
 pub mod Contents
+pub mod Frames
 pub mod Ready
 pub mod StandsFor
 pub mod Truncate

@@ -42,6 +42,11 @@ pub record HasNoEmptyBlock (g : Geometry) (h : Held) (a : List ℕ) : Type 0 whe
   pub some : (slot : ℕ) (ks : List ℕ) → IsSpot (block_numbers g) slot ks → length ks < height_of slot → block_at h a slot ks ≢ 0
       → (k : ℕ) × ((k < block_numbers g) × (child h (block_at h a slot ks) k ≢ 0))
 
+-- The inode's tree: its blocks are held, each stands in it once, and all are data blocks.
+pub record HasTree (o : Origin) (h : Held) (a : List ℕ) : Type 0 where
+  pub tree : IsTree o h a
+  pub in_data : HasDataBlocks o.sizes h a
+
 -- the inode stands for the node
 pub record StandsFor (o : Origin) (h : Held) (body : InodeBody) (node : Node) : Type 0 where
   pub described : IsDescribed body node

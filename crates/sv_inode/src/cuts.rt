@@ -57,7 +57,9 @@ fn cut_next<S: Stake>(
     requires other { HoldsOther (S.origin s.old) (S.held s.old) }
     requires lent { S.lent s.old ≡ nothing_lent }
     ensures mine { OnOk result (S.held s.new ≡ less b (S.held s.old)) }
-    ensures cut { OnOk result ((part : S) × ((cuts.new.items ≡ cuts.old.items ++ (b, part) ∷ []) × IsCut S.held S.lent S.origin S.forced S.faults (S.origin s.old) (S.held s.old) (b, part))) }
+    ensures cut { OnOk result ((part : S)
+        × ((cuts.new.items ≡ cuts.old.items ++ (b, part) ∷ []) × IsCut S.held S.lent S.origin S.forced S.faults (S.origin s.old)
+        (S.held s.old) (b, part))) }
     ensures err { OnErr result (S.held s.new ≡ S.held s.old) }
     ensures none { OnErr result (cuts.new.items ≡ cuts.old.items) }
     ensures memory { OnErr result (IsErrOf result NoMemory) }
@@ -108,7 +110,8 @@ fn cut_each<S: Stake>(
 fn merge_back<S: Stake>(s: &mut S, cuts: Vec<Cut<S>>)
     requires cuts { (h : Held) × IsCutFrom S.held S.lent S.origin S.forced S.faults (S.origin s.old) h (S.held s.old) cuts.items }
     requires lent { S.lent s.old ≡ nothing_lent }
-    ensures held { (h : Held) → IsCutFrom S.held S.lent S.origin S.forced S.faults (S.origin s.old) h (S.held s.old) cuts.items → S.held s.new ≡ h }
+    ensures held { (h : Held) → IsCutFrom S.held S.lent S.origin S.forced S.faults (S.origin s.old) h (S.held s.old) cuts.items
+        → S.held s.new ≡ h }
     ensures lends { S.lent s.new ≡ nothing_lent }
     ensures faults { S.faults s.new ≡ S.faults s.old }
     ensures forced { S.forced s.new ≡ S.forced s.old }
@@ -135,7 +138,8 @@ pub(crate) fn cut_all<S: Stake>(
     requires blocks { AreBlocks (S.origin s.old) (S.held s.old) blocks.now }
     requires other { HoldsOther (S.origin s.old) (S.held s.old) }
     requires lent { S.lent s.old ≡ nothing_lent }
-    ensures cuts { IfOk result (λ cuts. IsCutFrom S.held S.lent S.origin S.forced S.faults (S.origin s.old) (S.held s.old) (S.held s.new) cuts.items) }
+    ensures cuts { IfOk result (λ cuts. IsCutFrom S.held S.lent S.origin S.forced S.faults (S.origin s.old) (S.held s.old)
+        (S.held s.new) cuts.items) }
     ensures names { IfOk result (λ cuts. names_of cuts.items ≡ blocks.now) }
     ensures err { OnErr result (S.held s.new ≡ S.held s.old) }
     ensures memory { OnErr result (IsErrOf result NoMemory) }
@@ -162,7 +166,8 @@ pub(crate) fn free_all<R: Wait, S: Stake>(rt: &R, core: &mut SuperCore<S>, cuts:
     ensures spare { core.new.spare + length cuts.items ≡ core.old.spare }
     ensures inodes { core.new.inodes ≡ core.old.inodes }
     ensures head { core.new.head ≡ core.old.head }
-    ensures lines { (h : Held) → CanFreeAll S.held S.lent S.origin S.forced (S.origin core.old.stake) h (S.held core.old.stake) cuts.items → SameLines (S.held core.new.stake) (Both (S.held core.old.stake) (only (names_of cuts.items) h)) }
+    ensures lines { (h : Held) → CanFreeAll S.held S.lent S.origin S.forced (S.origin core.old.stake) h (S.held core.old.stake) cuts.items
+        → SameLines (S.held core.new.stake) (Both (S.held core.old.stake) (only (names_of cuts.items) h)) }
     ensures others { (c l : ℕ) → times c (names_of cuts.items) ≡ 0 → S.held core.new.stake c l ≡ S.held core.old.stake c l }
     ensures lends { S.lent core.new.stake ≡ nothing_lent }
     ensures forced { S.forced core.new.stake ≡ S.forced core.old.stake }

@@ -1,5 +1,6 @@
 // One page of a file is written.
-ghost use Rattle.std.specs.Prelude.{◌≡◌, ◌≢◌, ◌≤◌, ◌<◌, ◌+◌, ◌⊎◌, ◌++◌, ◌∷◌, [], ℕ, suc, List, OnOk, OnErr, IsSome, IfOk, length, replicate, reverse, vec_capacity, vec_len};
+ghost use Rattle.std.specs.Prelude.{◌≡◌, ◌≢◌, ◌≤◌, ◌<◌, ◌+◌, ◌-◌, ◌⊎◌, ◌++◌, ◌∷◌, [], ℕ, suc, List, OnOk, OnErr, IsSome, IfOk, length};
+ghost use Rattle.std.specs.Prelude.{replicate, reverse, vec_capacity, vec_len};
 ghost use Rattle.std.specs.List.{All, sum_by};
 ghost use Rattle.std.specs.FinMap as fmap;
 ghost use Rattle.sv_dev.specs.Causes.{Rose};
@@ -10,10 +11,10 @@ ghost use Rattle.sv_store.specs.Causes.{HasFault};
 ghost use Rattle.sv_store.specs.Loan.{Loan};
 ghost use Rattle.sv_store.specs.Held.{Held, HoldsBlock, Origin, SameLines, nothing_lent, put};
 ghost use Rattle.sv_bmap.specs.Need.{need_of};
-ghost use Rattle.sv_bmap.specs.Tree.{page_block};
 ghost use Rattle.sv_inode.specs.StandsFor.{StandsFor};
-ghost use Rattle.sv_inode.specs.Truncate.{CanFreeAll, IsPart, names_of};
-ghost use Rattle.sv_inode.specs.Write.{ArePaired, Uses, patched, with_piece};
+ghost use Rattle.sv_inode.specs.Frames.{KeepsFront};
+ghost use Rattle.sv_inode.specs.Truncate.{CanFreeAll, HoldsOnly, IsPart, names_of};
+ghost use Rattle.sv_inode.specs.Write.{ArePaired, HasRooms, IsHole, IsRoom, LiesIn, Uses, patched, with_piece};
 
 use crate::LockedInode;
 use crate::cuts::Cut;
@@ -37,7 +38,8 @@ fn overwrite<R: Wait, S: Stake>(
     requires block { HoldsBlock (S.origin s.old) (S.held s.old) b }
     requires fits { from + length piece.now ≤ (S.origin s.old).sizes.block_size }
     requires lent { S.lent s.old ≡ nothing_lent }
-    ensures ok { OnOk result ((buf : Loan) × (Gets (S.origin s.old) (S.held s.old) b buf × (S.held s.new ≡ put b (patched buf.bytes from piece.now) (S.held s.old)))) }
+    ensures ok { OnOk result ((buf : Loan)
+        × (Gets (S.origin s.old) (S.held s.old) b buf × (S.held s.new ≡ put b (patched buf.bytes from piece.now) (S.held s.old)))) }
     ensures err { OnErr result (S.held s.new ≡ S.held s.old) }
     ensures lines { SameLines (S.held s.new) (S.held s.old) }
     ensures others { (c l : ℕ) → c ≢ b → S.held s.new c l ≡ S.held s.old c l }
@@ -83,8 +85,10 @@ fn take_out<S: Stake>(cuts: &mut Vec<Cut<S>>, count: u32, names: &mut Names, par
     ensures names { names_of cuts.new.items ++ reverse names.new.items ≡ names_of cuts.old.items }
     ensures count { length names.new.items ≡ count }
     ensures capacity { vec_capacity cuts.new ≡ vec_capacity cuts.old }
-    ensures left { (o : Origin) (h : Held) → All (IsPart S.held S.lent S.origin S.forced o h) cuts.old.items → All (IsPart S.held S.lent S.origin S.forced o h) cuts.new.items }
-    ensures parts { (o : Origin) (h : Held) → All (IsPart S.held S.lent S.origin S.forced o h) cuts.old.items → ArePaired S.held S.lent S.origin S.forced o h names.new.items parts.new.items }
+    ensures left { (o : Origin) (h : Held) → All (IsPart S.held S.lent S.origin S.forced o h) cuts.old.items
+        → All (IsPart S.held S.lent S.origin S.forced o h) cuts.new.items }
+    ensures parts { (o : Origin) (h : Held) → All (IsPart S.held S.lent S.origin S.forced o h) cuts.old.items
+        → ArePaired S.held S.lent S.origin S.forced o h names.new.items parts.new.items }
 {
     for _block in 0..count {
         let Some((b, part)) = cuts.pop() else {
@@ -112,8 +116,11 @@ fn put_back<S: Stake>(cuts: &mut Vec<Cut<S>>, names: Names, parts: Vec<S>)
     requires room { length cuts.old.items + length names.items ≤ vec_capacity cuts.old }
     requires count { length parts.items ≡ length names.items }
     ensures names { names_of cuts.new.items ≡ names_of cuts.old.items ++ reverse names.items }
-    ensures each { (o : Origin) (h : Held) → All (IsPart S.held S.lent S.origin S.forced o h) cuts.old.items → ArePaired S.held S.lent S.origin S.forced o h names.items parts.items → All (IsPart S.held S.lent S.origin S.forced o h) cuts.new.items }
-    ensures faults { sum_by (λ cut. S.faults cut.1) cuts.new.items ≡ sum_by (λ cut. S.faults cut.1) cuts.old.items + sum_by S.faults parts.items }
+    ensures each { (o : Origin) (h : Held) → All (IsPart S.held S.lent S.origin S.forced o h) cuts.old.items
+        → ArePaired S.held S.lent S.origin S.forced o h names.items parts.items
+        → All (IsPart S.held S.lent S.origin S.forced o h) cuts.new.items }
+    ensures faults { sum_by (λ cut. S.faults cut.1) cuts.new.items ≡ sum_by (λ cut. S.faults cut.1) cuts.old.items
+        + sum_by S.faults parts.items }
 {
     let count = parts.len();
     let mut names = names;
@@ -138,18 +145,21 @@ fn add_page<R: Wait, S: Stake>(
     room: Vec<S>,
 ) -> Result<(), Refusal>
     requires stands { (node : Node) × StandsFor (S.origin inode.old.stake) (S.held inode.old.stake) inode.old.body node }
-    requires page { IsPage (S.origin inode.old.stake).sizes page }
-    requires hole { page_block (S.origin inode.old.stake).sizes (S.held inode.old.stake) inode.old.body.addresses page ≡ 0 }
+    requires hole { IsHole (S.origin inode.old.stake).sizes (S.held inode.old.stake) inode.old.body.addresses page }
     requires size { length bytes.now ≡ (S.origin inode.old.stake).sizes.block_size }
-    requires cuts { (h : Held) × CanFreeAll S.held S.lent S.origin S.forced (S.origin inode.old.stake) h (S.held inode.old.stake) cuts.old.items }
-    requires enough { need_of (S.origin inode.old.stake).sizes (S.held inode.old.stake) inode.old.body.addresses page 1 ≤ length cuts.old.items }
-    requires empty { room.items ≡ [] }
-    requires roomy { 4 ≤ vec_capacity room }
+    requires cuts { (h : Held)
+        × CanFreeAll S.held S.lent S.origin S.forced (S.origin inode.old.stake) h (S.held inode.old.stake) cuts.old.items }
+    requires enough { need_of (S.origin inode.old.stake).sizes
+        (S.held inode.old.stake) inode.old.body.addresses page 1 ≤ length cuts.old.items }
+    requires room { IsRoom room }
     requires lent { S.lent inode.old.stake ≡ nothing_lent }
     ensures node { (node : Node) → StandsFor (S.origin inode.old.stake) (S.held inode.old.stake) inode.old.body node
-        → OnOk result (StandsFor (S.origin inode.new.stake) (S.held inode.new.stake) inode.new.body (record node { pages = fmap.insert node.pages page bytes.now })) }
-    ensures cuts { (h : Held) → CanFreeAll S.held S.lent S.origin S.forced (S.origin inode.old.stake) h (S.held inode.old.stake) cuts.old.items
-        → Uses S.held S.lent S.origin S.forced (S.origin inode.old.stake) h (S.held inode.old.stake) (S.held inode.new.stake) cuts.old.items cuts.new.items }
+        → OnOk result (StandsFor (S.origin inode.new.stake) (S.held inode.new.stake) inode.new.body
+        (record node { pages = fmap.insert node.pages page bytes.now })) }
+    ensures cuts { (h : Held)
+        → CanFreeAll S.held S.lent S.origin S.forced (S.origin inode.old.stake) h (S.held inode.old.stake) cuts.old.items
+        → Uses S.held S.lent S.origin S.forced (S.origin inode.old.stake) h
+        (S.held inode.old.stake) (S.held inode.new.stake) cuts.old.items cuts.new.items }
     ensures need { OnOk result ((n : ℕ) → IsPage (S.origin inode.old.stake).sizes (page + n)
         → need_of (S.origin inode.old.stake).sizes (S.held inode.old.stake) inode.old.body.addresses page (suc n) + length cuts.new.items
         ≡ need_of (S.origin inode.old.stake).sizes (S.held inode.new.stake) inode.new.body.addresses (suc page) n + length cuts.old.items) }
@@ -157,13 +167,12 @@ fn add_page<R: Wait, S: Stake>(
     ensures body { inode.new.body ≡ record inode.old.body { addresses = inode.new.body.addresses } }
     ensures body_kept { OnErr result (inode.new.body ≡ inode.old.body) }
     ensures held { OnErr result (S.held inode.new.stake ≡ S.held inode.old.stake) }
-    ensures before { (c l : ℕ) → c < (S.origin inode.old.stake).sizes.first_data → IsSome (S.held inode.old.stake c l) → S.held inode.new.stake c l ≡ S.held inode.old.stake c l }
     ensures number { inode.new.number ≡ inode.old.number }
-    ensures faults { S.faults inode.old.stake ≤ S.faults inode.new.stake }
-    ensures cause { OnErr result (Rose (S.faults inode.old.stake) (S.faults inode.new.stake) ⊎ (0 < sum_by (λ cut. S.faults cut.1) cuts.new.items)) }
-    ensures lends { S.lent inode.new.stake ≡ nothing_lent }
-    ensures forced { S.forced inode.new.stake ≡ S.forced inode.old.stake }
-    ensures origin { S.origin inode.new.stake ≡ S.origin inode.old.stake }
+    ensures only { (n : ℕ) → HoldsOnly (S.origin inode.old.stake) (S.held inode.old.stake) n inode.old.body.addresses
+        → HoldsOnly (S.origin inode.old.stake) (S.held inode.new.stake) n inode.new.body.addresses }
+    ensures front { KeepsFront S.held S.lent S.origin S.forced S.faults inode.old.stake inode.new.stake }
+    ensures cause { OnErr result (Rose (S.faults inode.old.stake) (S.faults inode.new.stake)
+        ⊎ (0 < sum_by (λ cut. S.faults cut.1) cuts.new.items)) }
 {
     let _sizes = inode.stake.geometry();
     let count = match need(rt, &inode.body.addresses, &mut inode.stake, page, 1) {
@@ -203,37 +212,37 @@ pub(crate) fn write_page<R: Wait, S: Stake>(
     supplies: &mut Supplies<S>,
 ) -> Result<(), Refusal>
     requires stands { (node : Node) × StandsFor (S.origin inode.old.stake) (S.held inode.old.stake) inode.old.body node }
-    requires page { IsPage (S.origin inode.old.stake).sizes page }
-    requires fits { from + length piece.now ≤ (S.origin inode.old.stake).sizes.block_size }
-    requires cuts { (h : Held) × CanFreeAll S.held S.lent S.origin S.forced (S.origin inode.old.stake) h (S.held inode.old.stake) supplies.old.cuts.items }
-    requires enough { need_of (S.origin inode.old.stake).sizes (S.held inode.old.stake) inode.old.body.addresses page 1 ≤ length supplies.old.cuts.items }
-    requires some { 1 ≤ length supplies.old.rooms.items }
-    requires empty { All (λ room. room.items ≡ []) supplies.old.rooms.items }
-    requires roomy { All (λ room. 4 ≤ vec_capacity room) supplies.old.rooms.items }
-    requires bytes { length supplies.old.page.items ≡ (S.origin inode.old.stake).sizes.block_size }
+    requires piece { LiesIn (S.origin inode.old.stake).sizes page from (length piece.now) }
+    requires cuts { (h : Held)
+        × CanFreeAll S.held S.lent S.origin S.forced (S.origin inode.old.stake) h (S.held inode.old.stake) supplies.old.cuts.items }
+    requires enough { need_of (S.origin inode.old.stake).sizes
+        (S.held inode.old.stake) inode.old.body.addresses page 1 ≤ length supplies.old.cuts.items }
+    requires rooms { HasRooms 1 (S.origin inode.old.stake).sizes.block_size supplies.old.rooms.items supplies.old.page.items }
     requires lent { S.lent inode.old.stake ≡ nothing_lent }
     ensures node { (node : Node) → StandsFor (S.origin inode.old.stake) (S.held inode.old.stake) inode.old.body node
-        → OnOk result (StandsFor (S.origin inode.new.stake) (S.held inode.new.stake) inode.new.body (with_piece (S.origin inode.old.stake).sizes.block_size node page from piece.now)) }
-    ensures cuts { (h : Held) → CanFreeAll S.held S.lent S.origin S.forced (S.origin inode.old.stake) h (S.held inode.old.stake) supplies.old.cuts.items
-        → Uses S.held S.lent S.origin S.forced (S.origin inode.old.stake) h (S.held inode.old.stake) (S.held inode.new.stake) supplies.old.cuts.items supplies.new.cuts.items }
+        → OnOk result (StandsFor (S.origin inode.new.stake) (S.held inode.new.stake) inode.new.body
+        (with_piece (S.origin inode.old.stake).sizes.block_size node page from piece.now)) }
+    ensures cuts { (h : Held)
+        → CanFreeAll S.held S.lent S.origin S.forced (S.origin inode.old.stake) h (S.held inode.old.stake) supplies.old.cuts.items
+        → Uses S.held S.lent S.origin S.forced (S.origin inode.old.stake) h
+        (S.held inode.old.stake) (S.held inode.new.stake) supplies.old.cuts.items supplies.new.cuts.items }
     ensures need { OnOk result ((n : ℕ) → IsPage (S.origin inode.old.stake).sizes (page + n)
-        → need_of (S.origin inode.old.stake).sizes (S.held inode.old.stake) inode.old.body.addresses page (suc n) + length supplies.new.cuts.items
-        ≡ need_of (S.origin inode.old.stake).sizes (S.held inode.new.stake) inode.new.body.addresses (suc page) n + length supplies.old.cuts.items) }
+        → need_of (S.origin inode.old.stake).sizes (S.held inode.old.stake) inode.old.body.addresses page (suc n)
+        + length supplies.new.cuts.items
+        ≡ need_of (S.origin inode.old.stake).sizes (S.held inode.new.stake) inode.new.body.addresses (suc page) n
+        + length supplies.old.cuts.items) }
     ensures count { OnErr result (length supplies.new.cuts.items ≡ length supplies.old.cuts.items) }
-    ensures rooms { OnOk result (length supplies.old.rooms.items ≤ length supplies.new.rooms.items + 1) }
-    ensures empty { All (λ room. room.items ≡ []) supplies.new.rooms.items }
-    ensures roomy { All (λ room. 4 ≤ vec_capacity room) supplies.new.rooms.items }
-    ensures bytes { length supplies.new.page.items ≡ length supplies.old.page.items }
+    ensures rooms { HasRooms (length supplies.old.rooms.items - 1)
+        (S.origin inode.old.stake).sizes.block_size supplies.new.rooms.items supplies.new.page.items }
     ensures body { inode.new.body ≡ record inode.old.body { addresses = inode.new.body.addresses } }
     ensures body_kept { OnErr result (inode.new.body ≡ inode.old.body) }
     ensures held { OnErr result (S.held inode.new.stake ≡ S.held inode.old.stake) }
-    ensures before { (c l : ℕ) → c < (S.origin inode.old.stake).sizes.first_data → IsSome (S.held inode.old.stake c l) → S.held inode.new.stake c l ≡ S.held inode.old.stake c l }
     ensures number { inode.new.number ≡ inode.old.number }
-    ensures faults { S.faults inode.old.stake ≤ S.faults inode.new.stake }
-    ensures cause { OnErr result (Rose (S.faults inode.old.stake) (S.faults inode.new.stake) ⊎ (0 < sum_by (λ cut. S.faults cut.1) supplies.new.cuts.items)) }
-    ensures lends { S.lent inode.new.stake ≡ nothing_lent }
-    ensures forced { S.forced inode.new.stake ≡ S.forced inode.old.stake }
-    ensures origin { S.origin inode.new.stake ≡ S.origin inode.old.stake }
+    ensures only { (n : ℕ) → HoldsOnly (S.origin inode.old.stake) (S.held inode.old.stake) n inode.old.body.addresses
+        → HoldsOnly (S.origin inode.old.stake) (S.held inode.new.stake) n inode.new.body.addresses }
+    ensures front { KeepsFront S.held S.lent S.origin S.forced S.faults inode.old.stake inode.new.stake }
+    ensures cause { OnErr result (Rose (S.faults inode.old.stake) (S.faults inode.new.stake)
+        ⊎ (0 < sum_by (λ cut. S.faults cut.1) supplies.new.cuts.items)) }
 {
     let _sizes = inode.stake.geometry();
     let block = lookup(rt, &inode.body.addresses, &mut inode.stake, page)?;

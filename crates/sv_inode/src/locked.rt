@@ -1,19 +1,18 @@
 // A locked inode.
 ghost use Rattle.std.specs.Prelude.{◌≡◌, ◌≤◌, ◌<◌, ◌+◌, ◌-◌, ◌⊎◌, ℕ, IsSome, IfErr, IfOk, OnErr, OnOk, length, max, min, replicate, take};
-ghost use Rattle.sv_dev.specs.Causes.{counted};
 ghost use Rattle.sv_form.specs.Node.{Node, bytes_of};
 ghost use Rattle.sv_form.specs.NodeChanges.{emptied, put};
-ghost use Rattle.sv_form.specs.PagePath.{greatest_size};
-ghost use Rattle.sv_store.specs.Held.{Apart, Both, SameLines, nothing_lent};
-ghost use Rattle.sv_super.specs.Core.{free_times, left_of};
-ghost use Rattle.sv_super.specs.Count.{times};
+ghost use Rattle.sv_form.specs.PagePath.{greatest_size, slots};
+ghost use Rattle.sv_store.specs.Held.{Apart, nothing_lent};
+ghost use Rattle.sv_super.specs.Core.{left_of};
 ghost use Rattle.sv_bmap.specs.Causes.{HasReason};
 ghost use Rattle.sv_bmap.specs.Order.{blocks_of};
 ghost use Rattle.sv_bmap.specs.Tree.{IsTree};
 ghost use Rattle.sv_inode.specs.Contents.{file_bytes};
-ghost use Rattle.sv_inode.specs.StandsFor.{HasDataBlocks, StandsFor};
-ghost use Rattle.sv_inode.specs.Truncate.{FreesAll, HoldsInode, less_all, only};
-ghost use Rattle.sv_inode.specs.Write.{HasRisen, StopsAt, TakesBlocks, done_by, write_need};
+ghost use Rattle.sv_inode.specs.Frames.{KeepsCore, KeepsFree, KeepsFront, KeepsRoom, KeepsStake, SameFile};
+ghost use Rattle.sv_inode.specs.StandsFor.{HasTree, StandsFor};
+ghost use Rattle.sv_inode.specs.Truncate.{GivesBack, HoldsInode, HoldsOnly, less_all};
+ghost use Rattle.sv_inode.specs.Write.{HasRisen, MovesBlocks, StopsAt, done_by, write_need};
 
 use crate::cuts::{cut_all, free_all};
 use crate::range::read_range;
@@ -49,7 +48,8 @@ impl<S: Stake> LockedInode<S> {
         requires lent { S.lent self.old.stake ≡ nothing_lent }
         ensures bytes { (node : Node) → StandsFor (S.origin self.old.stake) (S.held self.old.stake) self.old.body node
             → IfOk result (λ bytes. bytes ≡ bytes_of (S.origin self.old.stake).sizes.block_size node at (min count (node.size - at))) }
-        ensures file { IfOk result (λ bytes. bytes ≡ file_bytes (S.origin self.old.stake).sizes (S.held self.old.stake) self.old.body.addresses at (min count (self.old.body.size - at))) }
+        ensures file { IfOk result (λ bytes. bytes ≡ file_bytes (S.origin self.old.stake).sizes
+            (S.held self.old.stake) self.old.body.addresses at (min count (self.old.body.size - at))) }
         ensures number { self.new.number ≡ self.old.number }
         ensures body { self.new.body ≡ self.old.body }
         ensures held { S.held self.new.stake ≡ S.held self.old.stake }
@@ -73,38 +73,28 @@ impl<S: Stake> LockedInode<S> {
         core: &mut SuperCore<S>,
     ) -> Result<(), Refusal>
         requires inode { HoldsInode (S.origin self.old.stake) (S.held self.old.stake) self.old.number }
-        requires tree { IsTree (S.origin self.old.stake) (S.held self.old.stake) self.old.body.addresses }
-        requires data_blocks { HasDataBlocks (S.origin self.old.stake).sizes (S.held self.old.stake) self.old.body.addresses }
+        requires tree { HasTree (S.origin self.old.stake) (S.held self.old.stake) self.old.body.addresses }
         requires apart { Apart (S.held core.old.stake) (S.held self.old.stake) }
         requires lent { S.lent self.old.stake ≡ nothing_lent }
         requires origin { S.origin core.old.stake ≡ S.origin self.old.stake }
         ensures node { (node : Node) → StandsFor (S.origin self.old.stake) (S.held self.old.stake) self.old.body node
             → OnOk result (StandsFor (S.origin self.new.stake) (S.held self.new.stake) self.new.body (emptied node)) }
-        ensures body { OnOk result (self.new.body ≡ record self.old.body { size = 0; addresses = replicate 13 0 }) }
-        ensures held { OnOk result (S.held self.new.stake ≡ less_all (blocks_of (S.origin self.old.stake).sizes (S.held self.old.stake) self.old.body.addresses) (S.held self.old.stake)) }
-        ensures freed { OnOk result (FreesAll (S.faults core.old.stake) (S.faults core.new.stake) core.old core.new (blocks_of (S.origin self.old.stake).sizes (S.held self.old.stake) self.old.body.addresses)) }
-        ensures lines { OnOk result (SameLines (S.held core.new.stake) (Both (S.held core.old.stake) (only (blocks_of (S.origin self.old.stake).sizes (S.held self.old.stake) self.old.body.addresses) (S.held self.old.stake)))) }
-        ensures others { OnOk result ((c l : ℕ) → times c (blocks_of (S.origin self.old.stake).sizes (S.held self.old.stake) self.old.body.addresses) ≡ 0 → S.held core.new.stake c l ≡ S.held core.old.stake c l) }
-        ensures spare { OnOk result (core.new.spare + length (blocks_of (S.origin self.old.stake).sizes (S.held self.old.stake) self.old.body.addresses) ≡ max core.old.spare (length (blocks_of (S.origin self.old.stake).sizes (S.held self.old.stake) self.old.body.addresses))) }
+        ensures body { OnOk result (self.new.body ≡ record self.old.body { size = 0; addresses = replicate slots 0 }) }
+        ensures held { OnOk result (S.held self.new.stake
+            ≡ less_all (blocks_of (S.origin self.old.stake).sizes (S.held self.old.stake) self.old.body.addresses)
+            (S.held self.old.stake)) }
+        ensures gives { OnOk result (GivesBack S.held S.faults (S.held self.old.stake)
+            (blocks_of (S.origin self.old.stake).sizes (S.held self.old.stake) self.old.body.addresses) core.old core.new) }
         ensures inode { HoldsInode (S.origin self.new.stake) (S.held self.new.stake) self.new.number }
         ensures apart { Apart (S.held core.new.stake) (S.held self.new.stake) }
-        ensures body_kept { OnErr result (self.new.body ≡ self.old.body) }
-        ensures held_kept { OnErr result (S.held self.new.stake ≡ S.held self.old.stake) }
-        ensures core_kept { OnErr result (core.new.stake ≡ core.old.stake) }
-        ensures chain_kept { OnErr result (core.new.chain ≡ core.old.chain) }
-        ensures aside_kept { OnErr result (core.new.aside ≡ core.old.aside) }
-        ensures spare_kept { OnErr result (core.old.spare ≤ core.new.spare) }
+        ensures only { (n : ℕ) → HoldsOnly (S.origin self.old.stake) (S.held self.old.stake) n self.old.body.addresses
+            → HoldsOnly (S.origin self.old.stake) (S.held self.new.stake) n self.new.body.addresses }
+        ensures kept { OnErr result (SameFile self.old.body self.new.body (S.held self.old.stake) (S.held self.new.stake)) }
+        ensures core_kept { OnErr result (KeepsFree core.old core.new) }
         ensures number { self.new.number ≡ self.old.number }
-        ensures inodes { core.new.inodes ≡ core.old.inodes }
-        ensures head { core.new.head ≡ core.old.head }
-        ensures lends { S.lent self.new.stake ≡ nothing_lent }
-        ensures core_lends { S.lent core.new.stake ≡ nothing_lent }
-        ensures forced { S.forced self.new.stake ≡ S.forced self.old.stake }
-        ensures core_forced { S.forced core.new.stake ≡ S.forced core.old.stake }
-        ensures origin { S.origin self.new.stake ≡ S.origin self.old.stake }
-        ensures core_origin { S.origin core.new.stake ≡ S.origin core.old.stake }
+        ensures stake { KeepsStake S.lent S.origin S.forced S.faults self.old.stake self.new.stake }
+        ensures core { KeepsCore S.lent S.origin S.forced S.faults core.old core.new }
         ensures cause { HasReason (S.faults self.old.stake) (S.faults self.new.stake) result }
-        ensures core_faults { counted (S.faults core.old.stake) 0 ≤ S.faults core.new.stake }
     {
         let _disk = self.stake.geometry();
         let _left = core.left();
@@ -131,33 +121,34 @@ impl<S: Stake> LockedInode<S> {
     ) -> Result<(), WriteStop>
         requires stands { (node : Node) × StandsFor (S.origin self.old.stake) (S.held self.old.stake) self.old.body node }
         requires end { at + length from.now ≤ greatest_size (S.origin self.old.stake).sizes }
-        requires left { write_need (S.origin self.old.stake).sizes (S.held self.old.stake) self.old.body.addresses at (length from.now) ≤ left_of core.old }
+        requires left { write_need (S.origin self.old.stake).sizes (S.held self.old.stake) self.old.body.addresses at
+            (length from.now) ≤ left_of core.old }
         requires apart { Apart (S.held core.old.stake) (S.held self.old.stake) }
         requires lent { S.lent self.old.stake ≡ nothing_lent }
         requires origin { S.origin core.old.stake ≡ S.origin self.old.stake }
         ensures node { (node : Node) → StandsFor (S.origin self.old.stake) (S.held self.old.stake) self.old.body node
-            → StandsFor (S.origin self.new.stake) (S.held self.new.stake) self.new.body (put (S.origin self.old.stake).sizes.block_size node at (take (done_by (length from.now) result) from.now)) }
-        ensures stop { IfErr result (StopsAt (S.origin self.old.stake).sizes.block_size at (length from.now) (HasRisen (S.faults self.old.stake) (S.faults self.new.stake) ⊎ HasRisen (S.faults core.old.stake) (S.faults core.new.stake))) }
-        ensures takes { TakesBlocks S.held (write_need (S.origin self.old.stake).sizes (S.held self.old.stake) self.old.body.addresses at (done_by (length from.now) result)) core.old core.new (S.held self.old.stake) (S.held self.new.stake) }
-        ensures left { left_of core.new + write_need (S.origin self.old.stake).sizes (S.held self.old.stake) self.old.body.addresses at (done_by (length from.now) result) ≡ left_of core.old }
-        ensures together { SameLines (Both (S.held self.new.stake) (S.held core.new.stake)) (Both (S.held self.old.stake) (S.held core.old.stake)) }
+            → StandsFor (S.origin self.new.stake) (S.held self.new.stake) self.new.body
+            (put (S.origin self.old.stake).sizes.block_size node at (take (done_by (length from.now) result) from.now)) }
+        ensures stop { IfErr result (StopsAt (S.origin self.old.stake).sizes.block_size at (length from.now)
+            (HasRisen (S.faults self.old.stake) (S.faults self.new.stake)
+            ⊎ HasRisen (S.faults core.old.stake) (S.faults core.new.stake))) }
+        ensures moves { MovesBlocks S.held
+            (write_need (S.origin self.old.stake).sizes (S.held self.old.stake) self.old.body.addresses at
+            (done_by (length from.now) result))
+            core.old core.new (S.held self.old.stake) (S.held self.new.stake) }
         ensures apart { Apart (S.held core.new.stake) (S.held self.new.stake) }
-        ensures others { (c l : ℕ) → free_times core.old.chain core.old.aside c ≡ 0 → S.held core.new.stake c l ≡ S.held core.old.stake c l }
-        ensures before { (c l : ℕ) → c < (S.origin self.old.stake).sizes.first_data → IsSome (S.held self.old.stake c l) → S.held self.new.stake c l ≡ S.held self.old.stake c l }
-        ensures inode { HoldsInode (S.origin self.old.stake) (S.held self.old.stake) self.old.number → HoldsInode (S.origin self.new.stake) (S.held self.new.stake) self.new.number }
-        ensures spare { OnOk result (core.new.spare ≡ max core.old.spare (write_need (S.origin self.old.stake).sizes (S.held self.old.stake) self.old.body.addresses at (length from.now))) }
+        ensures inode { HoldsInode (S.origin self.old.stake) (S.held self.old.stake) self.old.number
+            → HoldsInode (S.origin self.new.stake) (S.held self.new.stake) self.new.number }
+        ensures only { (n : ℕ) → HoldsOnly (S.origin self.old.stake) (S.held self.old.stake) n self.old.body.addresses
+            → HoldsOnly (S.origin self.old.stake) (S.held self.new.stake) n self.new.body.addresses }
+        ensures spare { KeepsRoom (write_need (S.origin self.old.stake).sizes (S.held self.old.stake) self.old.body.addresses at
+            (length from.now))
+            (write_need (S.origin self.old.stake).sizes (S.held self.old.stake) self.old.body.addresses at
+            (done_by (length from.now) result)) core.old.spare core.new.spare }
         ensures body { self.new.body ≡ record self.old.body { size = self.new.body.size; addresses = self.new.body.addresses } }
         ensures number { self.new.number ≡ self.old.number }
-        ensures inodes { core.new.inodes ≡ core.old.inodes }
-        ensures head { core.new.head ≡ core.old.head }
-        ensures lends { S.lent self.new.stake ≡ nothing_lent }
-        ensures core_lends { S.lent core.new.stake ≡ nothing_lent }
-        ensures forced { S.forced self.new.stake ≡ S.forced self.old.stake }
-        ensures core_forced { S.forced core.new.stake ≡ S.forced core.old.stake }
-        ensures origin { S.origin self.new.stake ≡ S.origin self.old.stake }
-        ensures core_origin { S.origin core.new.stake ≡ S.origin core.old.stake }
-        ensures faults { S.faults self.old.stake ≤ S.faults self.new.stake }
-        ensures core_faults { counted (S.faults core.old.stake) 0 ≤ S.faults core.new.stake }
+        ensures front { KeepsFront S.held S.lent S.origin S.forced S.faults self.old.stake self.new.stake }
+        ensures core { KeepsCore S.lent S.origin S.forced S.faults core.old core.new }
     {
         let _left = core.left();
         if from.is_empty() {

@@ -8,7 +8,8 @@ ghost use Rattle.sv_super.specs.Core.{IsSound, free_times, left_of};
 ghost use Rattle.sv_super.specs.Count.{times};
 ghost use Rattle.sv_store.specs.declared.refusal.Refusal.TheVariants.{Fault};
 ghost use Rattle.sv_inode.specs.Truncate.{AreBlocks, IsCutFrom, names_of};
-ghost use Rattle.sv_inode.specs.Write.{ComesBack, HasRisen, TakesCut};
+ghost use Rattle.sv_inode.specs.Frames.{KeepsCore, KeepsRoom};
+ghost use Rattle.sv_inode.specs.Write.{ComesBack, HasRisen, HasRooms, IsSupplied, TakesCut};
 
 use crate::cuts::{Cut, free_all};
 use std::alloc::{AllocFailed, Global};
@@ -139,9 +140,12 @@ fn take_each<R: Wait, S: Stake>(
 ) -> Result<(), Refusal>
     requires left { count ≤ left_of core.old }
     requires none { cuts.old.items ≡ [] }
-    ensures cuts { IsCutFrom S.held S.lent S.origin S.forced S.faults (S.origin core.old.stake) (S.held core.old.stake) (S.held core.new.stake) cuts.new.items }
-    ensures taken { (b : ℕ) → free_times core.new.chain core.new.aside b + times b (names_of cuts.new.items) ≡ free_times core.old.chain core.old.aside b }
-    ensures sound { IsSound (S.origin core.old.stake) (S.held core.old.stake) (S.lent core.old.stake) (free_times core.old.chain core.old.aside) }
+    ensures cuts { IsCutFrom S.held S.lent S.origin S.forced S.faults (S.origin core.old.stake) (S.held core.old.stake)
+        (S.held core.new.stake) cuts.new.items }
+    ensures taken { (b : ℕ) → free_times core.new.chain core.new.aside b + times b (names_of cuts.new.items)
+        ≡ free_times core.old.chain core.old.aside b }
+    ensures sound { IsSound (S.origin core.old.stake) (S.held core.old.stake) (S.lent core.old.stake)
+        (free_times core.old.chain core.old.aside) }
     ensures few { length cuts.new.items ≤ count }
     ensures left { left_of core.new + length cuts.new.items ≡ left_of core.old }
     ensures count { OnOk result (length cuts.new.items ≡ count) }
@@ -169,20 +173,12 @@ fn take_all<R: Wait, S: Stake>(
 ) -> Result<Vec<Cut<S>>, Refusal>
     requires left { count ≤ left_of core.old }
     requires spare { count ≤ core.old.spare }
-    ensures cuts { IfOk result (λ cuts. IsCutFrom S.held S.lent S.origin S.forced S.faults (S.origin core.old.stake) (S.held core.old.stake) (S.held core.new.stake) cuts.items) }
-    ensures are { IfOk result (λ cuts. AreBlocks (S.origin core.old.stake) (S.held core.old.stake) (names_of cuts.items)) }
-    ensures taken { IfOk result (λ cuts. (b : ℕ) → free_times core.new.chain core.new.aside b + times b (names_of cuts.items) ≡ free_times core.old.chain core.old.aside b) }
-    ensures count { IfOk result (λ cuts. length cuts.items ≡ count) }
-    ensures left { OnOk result (left_of core.new + count ≡ left_of core.old) }
+    ensures cuts { IfOk result (λ cuts. IsSupplied S.held S.lent S.origin S.forced S.faults count core.old core.new cuts.items) }
     ensures left_kept { OnErr result (left_of core.new ≡ left_of core.old) }
     ensures spare { OnOk result (core.new.spare ≡ core.old.spare) }
+    ensures spare_kept { OnErr result (KeepsRoom count 0 core.old.spare core.new.spare) }
     ensures back { OnErr result (ComesBack S.held core.old core.new) }
-    ensures inodes { core.new.inodes ≡ core.old.inodes }
-    ensures head { core.new.head ≡ core.old.head }
-    ensures lends { S.lent core.new.stake ≡ nothing_lent }
-    ensures forced { S.forced core.new.stake ≡ S.forced core.old.stake }
-    ensures origin { S.origin core.new.stake ≡ S.origin core.old.stake }
-    ensures faults { counted (S.faults core.old.stake) 0 ≤ S.faults core.new.stake }
+    ensures core { KeepsCore S.lent S.origin S.forced S.faults core.old core.new }
     ensures cause { IsErrOf result Fault → HasRisen (S.faults core.old.stake) (S.faults core.new.stake) }
 {
     let mut cuts = Vec::new(alloc);
@@ -205,24 +201,14 @@ pub(crate) fn gather<R: Wait, S: Stake>(
     block_size: u32,
 ) -> Result<Supplies<S>, Refusal>
     requires left { count ≤ left_of core.old }
-    ensures cuts { IfOk result (λ supplies. IsCutFrom S.held S.lent S.origin S.forced S.faults (S.origin core.old.stake) (S.held core.old.stake) (S.held core.new.stake) supplies.cuts.items) }
-    ensures are { IfOk result (λ supplies. AreBlocks (S.origin core.old.stake) (S.held core.old.stake) (names_of supplies.cuts.items)) }
-    ensures taken { IfOk result (λ supplies. (b : ℕ) → free_times core.new.chain core.new.aside b + times b (names_of supplies.cuts.items) ≡ free_times core.old.chain core.old.aside b) }
-    ensures count { IfOk result (λ supplies. length supplies.cuts.items ≡ count) }
-    ensures left { OnOk result (left_of core.new + count ≡ left_of core.old) }
+    ensures supplies { IfOk result (λ supplies.
+        IsSupplied S.held S.lent S.origin S.forced S.faults count core.old core.new supplies.cuts.items) }
+    ensures rooms { IfOk result (λ supplies. HasRooms pages block_size supplies.rooms.items supplies.page.items) }
     ensures left_kept { OnErr result (left_of core.new ≡ left_of core.old) }
-    ensures empty { IfOk result (λ supplies. All (λ room. room.items ≡ []) supplies.rooms.items) }
-    ensures roomy { IfOk result (λ supplies. All (λ room. 4 ≤ vec_capacity room) supplies.rooms.items) }
-    ensures rooms { IfOk result (λ supplies. length supplies.rooms.items ≡ pages) }
-    ensures page { IfOk result (λ supplies. length supplies.page.items ≡ block_size) }
     ensures spare { OnOk result (core.new.spare ≡ max core.old.spare count) }
+    ensures spare_kept { OnErr result (KeepsRoom count 0 core.old.spare core.new.spare) }
     ensures back { OnErr result (ComesBack S.held core.old core.new) }
-    ensures inodes { core.new.inodes ≡ core.old.inodes }
-    ensures head { core.new.head ≡ core.old.head }
-    ensures lends { S.lent core.new.stake ≡ nothing_lent }
-    ensures forced { S.forced core.new.stake ≡ S.forced core.old.stake }
-    ensures origin { S.origin core.new.stake ≡ S.origin core.old.stake }
-    ensures faults { counted (S.faults core.old.stake) 0 ≤ S.faults core.new.stake }
+    ensures core { KeepsCore S.lent S.origin S.forced S.faults core.old core.new }
     ensures cause { IsErrOf result Fault → HasRisen (S.faults core.old.stake) (S.faults core.new.stake) }
 {
     let _left = core.left();

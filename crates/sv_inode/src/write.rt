@@ -1,5 +1,6 @@
 // Bytes are put into a file, page by page.
-ghost use Rattle.std.specs.Prelude.{◌≡◌, ◌≤◌, ◌<◌, ◌+◌, ◌⊎◌, [], ℕ, IfOk, IfErr, OnOk, OnErr, IsErrOf, IsSome, length, max, take, vec_capacity};
+ghost use Rattle.std.specs.Prelude.{◌≡◌, ◌≤◌, ◌<◌, ◌+◌, ◌⊎◌, [], ℕ, IfOk, IfErr, OnOk, OnErr, IsErrOf, IsSome, length, max, take};
+ghost use Rattle.std.specs.Prelude.{vec_capacity};
 ghost use Rattle.std.specs.List.{All, sum_by};
 ghost use Rattle.sv_dev.specs.Causes.{Rose, counted};
 ghost use Rattle.sv_form.specs.Node.{Node};
@@ -10,8 +11,10 @@ ghost use Rattle.sv_store.specs.declared.refusal.Refusal.TheVariants.{Fault};
 ghost use Rattle.sv_super.specs.Core.{free_times, left_of};
 ghost use Rattle.sv_super.specs.Count.{times};
 ghost use Rattle.sv_inode.specs.StandsFor.{StandsFor};
-ghost use Rattle.sv_inode.specs.Truncate.{AreBlocks, CanFreeAll, IsCutFrom, names_of};
-ghost use Rattle.sv_inode.specs.Write.{ComesBack, HasRisen, IsPageEnd, PutsBack, StopsAt, Uses, done_by, put_by, write_need};
+ghost use Rattle.sv_inode.specs.Frames.{KeepsCore, KeepsFront, KeepsRoom, KeepsStake};
+ghost use Rattle.sv_inode.specs.Truncate.{CanFreeAll, HoldsOnly, names_of};
+ghost use Rattle.sv_inode.specs.Write.{ComesBack, HasRisen, HasRooms, IsPageEnd, IsSupplied, PutsBack, StopsAt, Uses, done_by, put_by};
+ghost use Rattle.sv_inode.specs.Write.{write_need};
 
 use crate::LockedInode;
 use crate::cuts::free_all;
@@ -35,28 +38,32 @@ fn write_pages<R: Wait, S: Stake>(
     requires stands { (node : Node) × StandsFor (S.origin inode.old.stake) (S.held inode.old.stake) inode.old.body node }
     requires some { 0 < length from.now }
     requires end { at + length from.now ≤ greatest_size (S.origin inode.old.stake).sizes }
-    requires cuts { (h : Held) × CanFreeAll S.held S.lent S.origin S.forced (S.origin inode.old.stake) h (S.held inode.old.stake) supplies.old.cuts.items }
-    requires enough { length supplies.old.cuts.items ≡ write_need (S.origin inode.old.stake).sizes (S.held inode.old.stake) inode.old.body.addresses at (length from.now) }
-    requires rooms { length (touched (S.origin inode.old.stake).sizes.block_size at (length from.now)) ≤ length supplies.old.rooms.items }
-    requires empty { All (λ room. room.items ≡ []) supplies.old.rooms.items }
-    requires roomy { All (λ room. 4 ≤ vec_capacity room) supplies.old.rooms.items }
-    requires bytes { length supplies.old.page.items ≡ (S.origin inode.old.stake).sizes.block_size }
+    requires cuts { (h : Held)
+        × CanFreeAll S.held S.lent S.origin S.forced (S.origin inode.old.stake) h (S.held inode.old.stake) supplies.old.cuts.items }
+    requires enough { length supplies.old.cuts.items
+        ≡ write_need (S.origin inode.old.stake).sizes (S.held inode.old.stake) inode.old.body.addresses at (length from.now) }
+    requires rooms { HasRooms (length (touched (S.origin inode.old.stake).sizes.block_size at (length from.now)))
+        (S.origin inode.old.stake).sizes.block_size supplies.old.rooms.items supplies.old.page.items }
     requires lent { S.lent inode.old.stake ≡ nothing_lent }
     ensures node { (node : Node) → StandsFor (S.origin inode.old.stake) (S.held inode.old.stake) inode.old.body node
-        → StandsFor (S.origin inode.new.stake) (S.held inode.new.stake) inode.new.body (put (S.origin inode.old.stake).sizes.block_size node at (take (put_by (length from.now) result) from.now)) }
-    ensures cuts { (h : Held) → CanFreeAll S.held S.lent S.origin S.forced (S.origin inode.old.stake) h (S.held inode.old.stake) supplies.old.cuts.items
-        → Uses S.held S.lent S.origin S.forced (S.origin inode.old.stake) h (S.held inode.old.stake) (S.held inode.new.stake) supplies.old.cuts.items supplies.new.cuts.items }
-    ensures need { write_need (S.origin inode.old.stake).sizes (S.held inode.old.stake) inode.old.body.addresses at (put_by (length from.now) result) + length supplies.new.cuts.items ≡ length supplies.old.cuts.items }
+        → StandsFor (S.origin inode.new.stake) (S.held inode.new.stake) inode.new.body
+        (put (S.origin inode.old.stake).sizes.block_size node at (take (put_by (length from.now) result) from.now)) }
+    ensures cuts { (h : Held)
+        → CanFreeAll S.held S.lent S.origin S.forced (S.origin inode.old.stake) h (S.held inode.old.stake) supplies.old.cuts.items
+        → Uses S.held S.lent S.origin S.forced (S.origin inode.old.stake) h
+        (S.held inode.old.stake) (S.held inode.new.stake) supplies.old.cuts.items supplies.new.cuts.items }
+    ensures need { write_need (S.origin inode.old.stake).sizes (S.held inode.old.stake) inode.old.body.addresses at
+        (put_by (length from.now) result)
+        + length supplies.new.cuts.items ≡ length supplies.old.cuts.items }
     ensures done { IfErr result (λ done. (done < length from.now) × IsPageEnd (S.origin inode.old.stake).sizes.block_size at done) }
     ensures empty { All (λ room. room.items ≡ []) supplies.new.rooms.items }
-    ensures before { (c l : ℕ) → c < (S.origin inode.old.stake).sizes.first_data → IsSome (S.held inode.old.stake c l) → S.held inode.new.stake c l ≡ S.held inode.old.stake c l }
     ensures body { inode.new.body ≡ record inode.old.body { size = inode.new.body.size; addresses = inode.new.body.addresses } }
     ensures number { inode.new.number ≡ inode.old.number }
-    ensures faults { S.faults inode.old.stake ≤ S.faults inode.new.stake }
-    ensures cause { OnErr result (Rose (S.faults inode.old.stake) (S.faults inode.new.stake) ⊎ (0 < sum_by (λ cut. S.faults cut.1) supplies.new.cuts.items)) }
-    ensures lends { S.lent inode.new.stake ≡ nothing_lent }
-    ensures forced { S.forced inode.new.stake ≡ S.forced inode.old.stake }
-    ensures origin { S.origin inode.new.stake ≡ S.origin inode.old.stake }
+    ensures only { (n : ℕ) → HoldsOnly (S.origin inode.old.stake) (S.held inode.old.stake) n inode.old.body.addresses
+        → HoldsOnly (S.origin inode.old.stake) (S.held inode.new.stake) n inode.new.body.addresses }
+    ensures front { KeepsFront S.held S.lent S.origin S.forced S.faults inode.old.stake inode.new.stake }
+    ensures cause { OnErr result (Rose (S.faults inode.old.stake) (S.faults inode.new.stake)
+        ⊎ (0 < sum_by (λ cut. S.faults cut.1) supplies.new.cuts.items)) }
 {
     let sizes = inode.stake.geometry();
     let all = from.len() as u32;
@@ -88,34 +95,28 @@ pub(crate) fn prepare<R: Wait, S: Stake>(
     requires stands { (node : Node) × StandsFor (S.origin inode.old.stake) (S.held inode.old.stake) inode.old.body node }
     requires some { 0 < all }
     requires end { at + all ≤ greatest_size (S.origin inode.old.stake).sizes }
-    requires left { write_need (S.origin inode.old.stake).sizes (S.held inode.old.stake) inode.old.body.addresses at all ≤ left_of core.old }
+    requires left { write_need (S.origin inode.old.stake).sizes
+        (S.held inode.old.stake) inode.old.body.addresses at all ≤ left_of core.old }
     requires lent { S.lent inode.old.stake ≡ nothing_lent }
-    ensures cuts { IfOk result (λ supplies. IsCutFrom S.held S.lent S.origin S.forced S.faults (S.origin core.old.stake) (S.held core.old.stake) (S.held core.new.stake) supplies.cuts.items) }
-    ensures are { IfOk result (λ supplies. AreBlocks (S.origin core.old.stake) (S.held core.old.stake) (names_of supplies.cuts.items)) }
-    ensures taken { IfOk result (λ supplies. (b : ℕ) → free_times core.new.chain core.new.aside b + times b (names_of supplies.cuts.items) ≡ free_times core.old.chain core.old.aside b) }
-    ensures count { IfOk result (λ supplies. length supplies.cuts.items ≡ write_need (S.origin inode.old.stake).sizes (S.held inode.old.stake) inode.old.body.addresses at all) }
-    ensures left { IfOk result (λ supplies. left_of core.new + length supplies.cuts.items ≡ left_of core.old) }
-    ensures empty { IfOk result (λ supplies. All (λ room. room.items ≡ []) supplies.rooms.items) }
-    ensures roomy { IfOk result (λ supplies. All (λ room. 4 ≤ vec_capacity room) supplies.rooms.items) }
-    ensures rooms { IfOk result (λ supplies. length (touched (S.origin inode.old.stake).sizes.block_size at all) ≤ length supplies.rooms.items) }
-    ensures bytes { IfOk result (λ supplies. length supplies.page.items ≡ (S.origin inode.old.stake).sizes.block_size) }
-    ensures spare { OnOk result (core.new.spare ≡ max core.old.spare (write_need (S.origin inode.old.stake).sizes (S.held inode.old.stake) inode.old.body.addresses at all)) }
+    ensures supplies { IfOk result (λ supplies. IsSupplied S.held S.lent S.origin S.forced S.faults
+        (write_need (S.origin inode.old.stake).sizes (S.held inode.old.stake) inode.old.body.addresses at all) core.old core.new
+        supplies.cuts.items) }
+    ensures rooms { IfOk result (λ supplies. HasRooms (length (touched (S.origin inode.old.stake).sizes.block_size at all))
+        (S.origin inode.old.stake).sizes.block_size supplies.rooms.items supplies.page.items) }
+    ensures spare { OnOk result (core.new.spare
+        ≡ max core.old.spare (write_need (S.origin inode.old.stake).sizes (S.held inode.old.stake) inode.old.body.addresses at all)) }
+    ensures spare_kept { OnErr result
+        (KeepsRoom (write_need (S.origin inode.old.stake).sizes (S.held inode.old.stake) inode.old.body.addresses at all)
+        0 core.old.spare core.new.spare) }
     ensures back { OnErr result (ComesBack S.held core.old core.new) }
     ensures left_kept { OnErr result (left_of core.new ≡ left_of core.old) }
     ensures body { inode.new.body ≡ inode.old.body }
     ensures number { inode.new.number ≡ inode.old.number }
     ensures held { S.held inode.new.stake ≡ S.held inode.old.stake }
-    ensures lends { S.lent inode.new.stake ≡ nothing_lent }
-    ensures forced { S.forced inode.new.stake ≡ S.forced inode.old.stake }
-    ensures origin { S.origin inode.new.stake ≡ S.origin inode.old.stake }
-    ensures faults { S.faults inode.old.stake ≤ S.faults inode.new.stake }
-    ensures inodes { core.new.inodes ≡ core.old.inodes }
-    ensures head { core.new.head ≡ core.old.head }
-    ensures core_lends { S.lent core.new.stake ≡ nothing_lent }
-    ensures core_forced { S.forced core.new.stake ≡ S.forced core.old.stake }
-    ensures core_origin { S.origin core.new.stake ≡ S.origin core.old.stake }
-    ensures core_faults { counted (S.faults core.old.stake) 0 ≤ S.faults core.new.stake }
-    ensures cause { IsErrOf result Fault → HasRisen (S.faults inode.old.stake) (S.faults inode.new.stake) ⊎ HasRisen (S.faults core.old.stake) (S.faults core.new.stake) }
+    ensures stake { KeepsStake S.lent S.origin S.forced S.faults inode.old.stake inode.new.stake }
+    ensures core { KeepsCore S.lent S.origin S.forced S.faults core.old core.new }
+    ensures cause { IsErrOf result Fault → HasRisen (S.faults inode.old.stake) (S.faults inode.new.stake)
+        ⊎ HasRisen (S.faults core.old.stake) (S.faults core.new.stake) }
 {
     let _left = core.left();
     let sizes = inode.stake.geometry();
@@ -138,35 +139,39 @@ pub(crate) fn put_bytes<R: Wait, S: Stake>(
     requires stands { (node : Node) × StandsFor (S.origin inode.old.stake) (S.held inode.old.stake) inode.old.body node }
     requires some { 0 < length from.now }
     requires end { at + length from.now ≤ greatest_size (S.origin inode.old.stake).sizes }
-    requires cuts { (h : Held) × (CanFreeAll S.held S.lent S.origin S.forced (S.origin inode.old.stake) h (S.held inode.old.stake) supplies.cuts.items × CanFreeAll S.held S.lent S.origin S.forced (S.origin core.old.stake) h (S.held core.old.stake) supplies.cuts.items) }
+    requires cuts { (h : Held)
+        × (CanFreeAll S.held S.lent S.origin S.forced (S.origin inode.old.stake) h (S.held inode.old.stake) supplies.cuts.items
+        × CanFreeAll S.held S.lent S.origin S.forced (S.origin core.old.stake) h (S.held core.old.stake) supplies.cuts.items) }
     requires spare { length supplies.cuts.items ≤ core.old.spare }
-    requires enough { length supplies.cuts.items ≡ write_need (S.origin inode.old.stake).sizes (S.held inode.old.stake) inode.old.body.addresses at (length from.now) }
-    requires rooms { length (touched (S.origin inode.old.stake).sizes.block_size at (length from.now)) ≤ length supplies.rooms.items }
-    requires empty { All (λ room. room.items ≡ []) supplies.rooms.items }
-    requires roomy { All (λ room. 4 ≤ vec_capacity room) supplies.rooms.items }
-    requires bytes { length supplies.page.items ≡ (S.origin inode.old.stake).sizes.block_size }
+    requires enough { length supplies.cuts.items
+        ≡ write_need (S.origin inode.old.stake).sizes (S.held inode.old.stake) inode.old.body.addresses at (length from.now) }
+    requires rooms { HasRooms (length (touched (S.origin inode.old.stake).sizes.block_size at (length from.now)))
+        (S.origin inode.old.stake).sizes.block_size supplies.rooms.items supplies.page.items }
     requires lent { S.lent inode.old.stake ≡ nothing_lent }
     requires origin { S.origin core.old.stake ≡ S.origin inode.old.stake }
     ensures node { (node : Node) → StandsFor (S.origin inode.old.stake) (S.held inode.old.stake) inode.old.body node
-        → StandsFor (S.origin inode.new.stake) (S.held inode.new.stake) inode.new.body (put (S.origin inode.old.stake).sizes.block_size node at (take (done_by (length from.now) result) from.now)) }
-    ensures back { (h : Held) → CanFreeAll S.held S.lent S.origin S.forced (S.origin inode.old.stake) h (S.held inode.old.stake) supplies.cuts.items
+        → StandsFor (S.origin inode.new.stake) (S.held inode.new.stake) inode.new.body
+        (put (S.origin inode.old.stake).sizes.block_size node at (take (done_by (length from.now) result) from.now)) }
+    ensures back { (h : Held)
+        → CanFreeAll S.held S.lent S.origin S.forced (S.origin inode.old.stake) h (S.held inode.old.stake) supplies.cuts.items
         → CanFreeAll S.held S.lent S.origin S.forced (S.origin core.old.stake) h (S.held core.old.stake) supplies.cuts.items
-        → PutsBack S.held h (write_need (S.origin inode.old.stake).sizes (S.held inode.old.stake) inode.old.body.addresses at (done_by (length from.now) result)) (names_of supplies.cuts.items) core.old core.new (S.held inode.old.stake) (S.held inode.new.stake) }
-    ensures stop { IfErr result (StopsAt (S.origin inode.old.stake).sizes.block_size at (length from.now) (HasRisen (S.faults inode.old.stake) (S.faults inode.new.stake) ⊎ HasRisen (S.faults core.old.stake) (S.faults core.new.stake))) }
-    ensures spare { OnOk result (core.new.spare ≡ core.old.spare) }
-    ensures before { (c l : ℕ) → c < (S.origin inode.old.stake).sizes.first_data → IsSome (S.held inode.old.stake c l) → S.held inode.new.stake c l ≡ S.held inode.old.stake c l }
+        → PutsBack S.held h (write_need (S.origin inode.old.stake).sizes (S.held inode.old.stake) inode.old.body.addresses at
+        (done_by (length from.now) result))
+        (names_of supplies.cuts.items) core.old core.new (S.held inode.old.stake) (S.held inode.new.stake) }
+    ensures stop { IfErr result (StopsAt (S.origin inode.old.stake).sizes.block_size at (length from.now)
+        (HasRisen (S.faults inode.old.stake) (S.faults inode.new.stake)
+        ⊎ HasRisen (S.faults core.old.stake) (S.faults core.new.stake))) }
+    ensures spare { KeepsRoom (write_need (S.origin inode.old.stake).sizes (S.held inode.old.stake) inode.old.body.addresses at
+        (length from.now))
+        (write_need (S.origin inode.old.stake).sizes (S.held inode.old.stake) inode.old.body.addresses at
+        (done_by (length from.now) result))
+        core.old.spare core.new.spare }
     ensures body { inode.new.body ≡ record inode.old.body { size = inode.new.body.size; addresses = inode.new.body.addresses } }
     ensures number { inode.new.number ≡ inode.old.number }
-    ensures lends { S.lent inode.new.stake ≡ nothing_lent }
-    ensures forced { S.forced inode.new.stake ≡ S.forced inode.old.stake }
-    ensures origin { S.origin inode.new.stake ≡ S.origin inode.old.stake }
-    ensures faults { S.faults inode.old.stake ≤ S.faults inode.new.stake }
-    ensures inodes { core.new.inodes ≡ core.old.inodes }
-    ensures head { core.new.head ≡ core.old.head }
-    ensures core_lends { S.lent core.new.stake ≡ nothing_lent }
-    ensures core_forced { S.forced core.new.stake ≡ S.forced core.old.stake }
-    ensures core_origin { S.origin core.new.stake ≡ S.origin core.old.stake }
-    ensures core_faults { counted (S.faults core.old.stake) 0 ≤ S.faults core.new.stake }
+    ensures only { (n : ℕ) → HoldsOnly (S.origin inode.old.stake) (S.held inode.old.stake) n inode.old.body.addresses
+        → HoldsOnly (S.origin inode.old.stake) (S.held inode.new.stake) n inode.new.body.addresses }
+    ensures front { KeepsFront S.held S.lent S.origin S.forced S.faults inode.old.stake inode.new.stake }
+    ensures core { KeepsCore S.lent S.origin S.forced S.faults core.old core.new }
 {
     let mut supplies = supplies;
     let written = write_pages(rt, inode, at, from, &mut supplies);

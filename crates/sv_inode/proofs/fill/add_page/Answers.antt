@@ -1,11 +1,12 @@
 -- The last blocks of those at hand become the page, and the indirect blocks above it.
-use Rattle.std.proofs.Common.{◌∙◌, ap, arith, length, sym, subst}
+use Rattle.std.proofs.Common.{◌∙◌, ap, arith, length, refl, sym, subst}
 use Rattle.sv_form.specs.Geometry.{IsGeometry}
 use Rattle.sv_form.specs.declared.geometry.Geometry.{Geometry}
 use Rattle.std.specs.FinMap as fmap
 use Rattle.std.proofs.lemmas.List.{length-map}
 use Rattle.sv_store.specs.Held.{Origin}
 use Rattle.sv_inode.specs.StandsFor.{StandsFor}
+use Rattle.sv_inode.proofs.OwnLines.{only-grown, only-same}
 use Rattle.sv_inode.proofs.PageMade.{all-away, all-home, attaches-since, blocks-in-data, can-attach, count-moved, has-fault, kept-paired, later-rose, need-few, none-forced, same-held, uses-more, uses-none}
 use Rattle.sv_inode.proofs.WrittenNeed.{need-attached}
 use Rattle.sv_inode.proofs.WrittenTree.{attached-before, attached-stands}
@@ -21,14 +22,11 @@ pub attach-requires-clause-new : goal.attach-requires-clause-new
 attach-requires-clause-new g c κs within =
     can-attach c.args.inode.now.body.addresses c.args.page c.take_out.new.names.items c.take_out.new.parts.items c.take_out.new.cuts.items c.args.cuts.now.items
     (let P : Geometry → Type 0 = IsGeometry in subst P c.geometry-sizes.ensures.value c.geometry-sizes.ensures.sizes)
-    c.requires.hole (c.take_out.ensures.count ∙ c.in-Ok.ensures.need) c.requires.cuts.1 c.take_out.ensures.names
+    c.requires.hole.hole (c.take_out.ensures.count ∙ c.in-Ok.ensures.need) c.requires.cuts.1 c.take_out.ensures.names
     (c.take_out.ensures.parts (g.S.Stake.origin c.args.inode.now.stake) c.requires.cuts.0 c.requires.cuts.1.each) c.as_slice.ensures.value c.need.ensures.origin c.need.ensures.held
 
 pub put_back-requires-clause-room : goal.put_back-requires-clause-room
 put_back-requires-clause-room g c κs within = omega (arith, count-moved c.take_out.new.cuts.items c.args.cuts.now.items c.take_out.new.names.items c.take_out.ensures.names, c.take_out.ensures.capacity, c.args.cuts.now.ok.0, c.args.cuts.now.ok.1)
-
-pub returns-in-Ok-attach-clause-forced : goal.returns-in-Ok-attach-clause-forced
-returns-in-Ok-attach-clause-forced g c = none-forced c.take_out.new.names.items c.take_out.new.parts.items (c.take_out.ensures.parts (g.S.Stake.origin c.args.inode.now.stake) c.requires.cuts.0 c.requires.cuts.1.each) c.in-Ok-attach.ensures.forced ∙ c.need.ensures.forced
 
 pub returns-in-Err-attach-clause-cause : goal.returns-in-Err-attach-clause-cause
 returns-in-Err-attach-clause-cause g c = later-rose c.need.ensures.cause.no_less (has-fault g.S.Stake.faults c.take_out.new.parts.items c.in-Err-attach.parts.items c.take_out.new.cuts.items c.put_back.new.cuts.items c.in-Err-attach.ensures.cause c.put_back.ensures.faults)
@@ -43,7 +41,7 @@ pub returns-in-Ok-attach-clause-node : goal.returns-in-Ok-attach-clause-node
 returns-in-Ok-attach-clause-node g c = λ node stands.
     (let P : Origin → Type 0 = λ q. StandsFor q (g.S.Stake.held c.attach.new.s) (record c.args.inode.now.body { addresses = c.attach.new.a }) (record node { pages = fmap.insert node.pages c.args.page c.args.bytes.now }) in
     subst P (sym (c.attach.ensures.origin ∙ c.need.ensures.origin))
-    (attached-stands (let P : Geometry → Type 0 = IsGeometry in subst P c.geometry-sizes.ensures.value c.geometry-sizes.ensures.sizes) c.requires.page stands
+    (attached-stands (let P : Geometry → Type 0 = IsGeometry in subst P c.geometry-sizes.ensures.value c.geometry-sizes.ensures.sizes) c.requires.hole.is_page stands
     (attaches-since c.need.ensures.origin c.need.ensures.held c.as_slice.ensures.value c.in-Ok-attach.ensures.ok)
     (blocks-in-data c.take_out.new.names.items c.take_out.new.cuts.items c.args.cuts.now.items c.requires.cuts.1 c.take_out.ensures.names) c.requires.size))
 
@@ -71,6 +69,46 @@ returns-in-Err-attach-clause-cuts g c = λ h can.
 pub returns-in-Err-attach-clause-count : goal.returns-in-Err-attach-clause-count
 returns-in-Err-attach-clause-count g c = omega (arith, ap length (c.put_back.ensures.names ∙ c.take_out.ensures.names), length-map c.put_back.new.cuts.items (λ x. x.0), length-map c.args.cuts.now.items (λ x. x.0))
 
-pub returns-in-Ok-attach-clause-before : goal.returns-in-Ok-attach-clause-before
-returns-in-Ok-attach-clause-before g c =
-    attached-before c.requires.stands.1.tree c.requires.stands.1.data_blocks (attaches-since c.need.ensures.origin c.need.ensures.held c.as_slice.ensures.value c.in-Ok-attach.ensures.ok)
+pub returns-in-Err-clause-front : goal.returns-in-Err-clause-front
+returns-in-Err-clause-front g c = record {
+  stake = record { away = c.need.ensures.lends; as_forced = c.need.ensures.forced; home = c.need.ensures.origin; no_less = c.need.ensures.cause.no_less };
+  before = λ b l low is. ap (λ q. q b l) c.need.ensures.held;
+}
+
+pub returns-in-Ok-attach-clause-front : goal.returns-in-Ok-attach-clause-front
+returns-in-Ok-attach-clause-front g c = record {
+  stake = record {
+    away = c.attach.ensures.lends;
+    as_forced = none-forced c.take_out.new.names.items c.take_out.new.parts.items
+        (c.take_out.ensures.parts (g.S.Stake.origin c.args.inode.now.stake) c.requires.cuts.0 c.requires.cuts.1.each)
+        c.in-Ok-attach.ensures.forced ∙ c.need.ensures.forced;
+    home = c.attach.ensures.origin ∙ c.need.ensures.origin;
+    no_less = omega (arith, c.attach.ensures.faults, c.need.ensures.cause.no_less);
+  };
+  before = attached-before c.requires.stands.1.tree c.requires.stands.1.data_blocks
+      (attaches-since c.need.ensures.origin c.need.ensures.held c.as_slice.ensures.value c.in-Ok-attach.ensures.ok);
+}
+
+pub returns-in-Err-attach-clause-front : goal.returns-in-Err-attach-clause-front
+returns-in-Err-attach-clause-front g c = record {
+  stake = record {
+    away = c.attach.ensures.lends;
+    as_forced = c.in-Err-attach.ensures.unforced ∙ c.need.ensures.forced;
+    home = c.attach.ensures.origin ∙ c.need.ensures.origin;
+    no_less = omega (arith, c.attach.ensures.faults, c.need.ensures.cause.no_less);
+  };
+  before = λ b l low is. ap (λ q. q b l) (c.in-Err-attach.ensures.held ∙ c.need.ensures.held);
+}
+
+pub returns-in-Err-clause-only : goal.returns-in-Err-clause-only
+returns-in-Err-clause-only g c = λ n was. only-same c.need.ensures.held refl was
+
+pub returns-in-Ok-attach-clause-only : goal.returns-in-Ok-attach-clause-only
+returns-in-Ok-attach-clause-only g c = λ n was.
+    only-grown c.take_out.new.names.items c.take_out.new.parts.items n c.requires.stands.1.tree
+    (attaches-since c.need.ensures.origin c.need.ensures.held c.as_slice.ensures.value c.in-Ok-attach.ensures.ok)
+    (c.take_out.ensures.parts (g.S.Stake.origin c.args.inode.now.stake) c.requires.cuts.0 c.requires.cuts.1.each) was
+
+pub returns-in-Err-attach-clause-only : goal.returns-in-Err-attach-clause-only
+returns-in-Err-attach-clause-only g c = λ n was.
+    only-same (c.in-Err-attach.ensures.held ∙ c.need.ensures.held) c.in-Err-attach.ensures.addresses was

@@ -18,3 +18,18 @@ returns-in-Err-clause-back g c =
 
 pub returns-in-Err-clause-left_kept : goal.returns-in-Err-clause-left_kept
 returns-in-Err-clause-left_kept g c = omega (arith, freed-left c.free_all.ensures.blocks, length-map c.take_each.new.cuts.items (λ x. x.0), c.in-Err.ensures.left)
+
+pub returns-in-Ok-clause-cuts : goal.returns-in-Ok-clause-cuts
+returns-in-Ok-clause-cuts g c = record {
+  from = c.in-Ok.ensures.cuts;
+  are = taken-are c.args.core.now c.take_each.new.core c.in-Ok.ensures.sound c.in-Ok.ensures.taken;
+  taken = c.in-Ok.ensures.taken;
+  as_many = c.in-Ok.ensures.count;
+  left = c.in-Ok.ensures.left;
+}
+
+pub returns-in-Err-clause-spare_kept : goal.returns-in-Err-clause-spare_kept
+returns-in-Err-clause-spare_kept g c = record {
+  most = omega (arith, c.free_all.ensures.spare, c.in-Err.ensures.spare);
+  least = omega (arith, c.free_all.ensures.spare, c.in-Err.ensures.spare, c.in-Err.ensures.few, c.requires.spare);
+}

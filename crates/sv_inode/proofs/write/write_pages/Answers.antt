@@ -9,6 +9,7 @@ use Rattle.sv_form.specs.declared.inode.InodeBody.{InodeBody}
 use Rattle.sv_store.specs.Held.{Origin}
 use Rattle.sv_bmap.specs.Need.{need_of}
 use Rattle.sv_inode.specs.StandsFor.{StandsFor}
+use Rattle.sv_inode.proofs.OwnLines.{only-moved}
 use Rattle.sv_inode.proofs.PagesHeld.{size_some}
 use Rattle.sv_inode.proofs.PagesPut.{all-done, need-done, need-enough, needs-next, on-err, on-ok, piece-written, is-piece, range-page, reached-same, rooms-first, uses-next, uses-nothing}
 use Rattle.sv_inode.proofs.PieceEnds.{IsPiece, IsReached, first-count, reached-begin, reached-next}
@@ -23,11 +24,12 @@ loop-page-init g c = record {
       subst P (sym (put-begin c.geometry-sizes.result.block_size node c.args.at c.args.from.now)) stands);
   cuts = λ h can. uses-nothing (g.S.Stake.held c.args.inode.now.stake) c.args.supplies.now.cuts.items can;
   needs = λ n low. ap (λ q. need_of (g.S.Stake.origin c.args.inode.now.stake).sizes (g.S.Stake.held c.args.inode.now.stake) c.args.inode.now.body.addresses (c.args.at / c.geometry-sizes.result.block_size) q + length c.args.supplies.now.cuts.items) (omega arith);
+  only = λ n was. was;
   before = λ b l low is. refl;
-  rooms = rooms-first c.geometry-sizes.result.block_size c.args.at (length c.args.from.now) (length c.args.supplies.now.rooms.items) _ _ pos c.requires.some (omega (arith, c.requires.rooms, ap (λ q. length (touched q.block_size c.args.at (length c.args.from.now))) c.geometry-sizes.ensures.value)) refl refl;
-  empty = c.requires.empty;
-  roomy = c.requires.roomy;
-  bytes = c.requires.bytes;
+  rooms = rooms-first c.geometry-sizes.result.block_size c.args.at (length c.args.from.now) (length c.args.supplies.now.rooms.items) _ _ pos c.requires.some (omega (arith, c.requires.rooms.enough, ap (λ q. length (touched q.block_size c.args.at (length c.args.from.now))) c.geometry-sizes.ensures.value)) refl refl;
+  empty = c.requires.rooms.empty;
+  roomy = c.requires.rooms.roomy;
+  bytes = c.requires.rooms.size;
   body = refl;
   number = refl;
   faults = omega arith;
@@ -52,6 +54,43 @@ write_page-requires-clause-enough g c κs within =
           (size_some _ c.geometry-sizes.ensures.sizes) (ap (λ q. q.block_size) c.geometry-sizes.ensures.value) c.requires.some refl refl (omega (arith, c.loop-page.invariant.first, c.loop-page-test.true))
           (c.loop-page.invariant.needs 1 (omega (arith, c.loop-page-test.true))) c.requires.enough,
     )
+
+pub returns-then-is_err-clause-only : goal.returns-then-is_err-clause-only
+returns-then-is_err-clause-only g c = λ n was.
+    only-moved c.loop-page.invariant.origin (c.write_page.ensures.only n) (c.loop-page.invariant.only n was)
+
+pub returns-then-is_err-clause-front : goal.returns-then-is_err-clause-front
+returns-then-is_err-clause-front g c = record {
+  stake = record {
+    away = c.write_page.ensures.front.stake.away;
+    as_forced = c.write_page.ensures.front.stake.as_forced ∙ c.loop-page.invariant.forced;
+    home = c.write_page.ensures.front.stake.home ∙ c.loop-page.invariant.origin;
+    no_less = omega (arith, c.write_page.ensures.front.stake.no_less, c.loop-page.invariant.faults);
+  };
+  before = λ b l low is.
+      c.write_page.ensures.front.before b l (omega (arith, low, ap (λ q. q.sizes.first_data) c.loop-page.invariant.origin))
+      (ap is_some (c.loop-page.invariant.before b l low is) ∙ is)
+      ∙ c.loop-page.invariant.before b l low is;
+}
+
+pub returns-clause-front : goal.returns-clause-front
+returns-clause-front g c = record {
+  stake = record {
+    away = c.loop-page.invariant.lends;
+    as_forced = c.loop-page.invariant.forced;
+    home = c.loop-page.invariant.origin;
+    no_less = c.loop-page.invariant.faults;
+  };
+  before = c.loop-page.invariant.before;
+}
+
+pub write_page-requires-clause-rooms : goal.write_page-requires-clause-rooms
+write_page-requires-clause-rooms g c κs within = record {
+  enough = omega (arith, c.loop-page.invariant.rooms, c.loop-page-test.true);
+  empty = c.loop-page.invariant.empty;
+  roomy = c.loop-page.invariant.roomy;
+  size = c.loop-page.invariant.bytes ∙ sym (ap (λ q. q.sizes.block_size) c.loop-page.invariant.origin);
+}
 
 pub returns-then-is_err-clause-cuts : goal.returns-then-is_err-clause-cuts
 returns-then-is_err-clause-cuts g c = λ h can. uses-next c.args.supplies.now.cuts.items c.loop-page.supplies.cuts.items c.write_page.new.supplies.cuts.items c.loop-page.invariant.origin (c.loop-page.invariant.cuts h can) (c.write_page.ensures.cuts h)
@@ -78,19 +117,20 @@ loop-page-preserved g c = record {
       needs-next (g.S.Stake.held c.loop-page.inode.stake) (g.S.Stake.held c.write_page.new.inode.stake) (g.S.Stake.held c.args.inode.now.stake) c.args.inode.now.body.addresses c.loop-page.inode.body.addresses c.write_page.new.inode.body.addresses c.geometry-sizes.result.block_size c.args.at (length c.args.from.now) (c.args.at / c.geometry-sizes.result.block_size) ((c.args.at + length c.args.from.now - 1) / c.geometry-sizes.result.block_size) c.loop-page.page n
       (length c.loop-page.supplies.cuts.items) (length c.write_page.new.supplies.cuts.items) (length c.args.supplies.now.cuts.items) c.loop-page.invariant.origin its_sizes (ap (λ q. q.block_size) c.geometry-sizes.ensures.value) c.requires.some c.requires.end refl refl c.loop-page.invariant.first low
       (c.loop-page.invariant.needs (suc n) (omega (arith, low))) (on-ok c.write_page.result passed c.write_page.ensures.need n);
+  only = λ n was. only-moved c.loop-page.invariant.origin (c.write_page.ensures.only n) (c.loop-page.invariant.only n was);
   before = λ b l low is.
-      c.write_page.ensures.before b l (omega (arith, low, ap (λ q. q.sizes.first_data) c.loop-page.invariant.origin)) (ap is_some (c.loop-page.invariant.before b l low is) ∙ is)
+      c.write_page.ensures.front.before b l (omega (arith, low, ap (λ q. q.sizes.first_data) c.loop-page.invariant.origin)) (ap is_some (c.loop-page.invariant.before b l low is) ∙ is)
       ∙ c.loop-page.invariant.before b l low is;
-  rooms = omega (arith, c.loop-page.invariant.rooms, on-ok c.write_page.result passed c.write_page.ensures.rooms);
-  empty = c.write_page.ensures.empty;
-  roomy = c.write_page.ensures.roomy;
-  bytes = c.write_page.ensures.bytes ∙ c.loop-page.invariant.bytes;
+  rooms = omega (arith, c.loop-page.invariant.rooms, c.write_page.ensures.rooms.enough);
+  empty = c.write_page.ensures.rooms.empty;
+  roomy = c.write_page.ensures.rooms.roomy;
+  bytes = c.write_page.ensures.rooms.size ∙ ap (λ q. q.sizes.block_size) c.loop-page.invariant.origin;
   body = ap (λ (b : InodeBody). record b { size = c.max-inode.result }) (c.write_page.ensures.body ∙ ap (λ (b : InodeBody). record b { addresses = c.write_page.new.inode.body.addresses }) c.loop-page.invariant.body);
   number = c.write_page.ensures.number ∙ c.loop-page.invariant.number;
-  faults = omega (arith, c.write_page.ensures.faults, c.loop-page.invariant.faults);
-  lends = c.write_page.ensures.lends;
-  forced = c.write_page.ensures.forced ∙ c.loop-page.invariant.forced;
-  origin = c.write_page.ensures.origin ∙ c.loop-page.invariant.origin;
+  faults = omega (arith, c.write_page.ensures.front.stake.no_less, c.loop-page.invariant.faults);
+  lends = c.write_page.ensures.front.stake.away;
+  forced = c.write_page.ensures.front.stake.as_forced ∙ c.loop-page.invariant.forced;
+  origin = c.write_page.ensures.front.stake.home ∙ c.loop-page.invariant.origin;
 }
   where
     pos : 0 < c.geometry-sizes.result.block_size

@@ -13,9 +13,9 @@ returns g c = record {
     node = _;
     stands = c.writei-answer.ensures.node c.requires.ready.node c.requires.ready.stands;
     inode = c.writei-answer.ensures.inode c.requires.ready.inode;
-    lent = c.writei-answer.ensures.lends;
+    lent = c.writei-answer.ensures.front.stake.away;
     apart = c.writei-answer.ensures.apart;
-    home = c.writei-answer.ensures.core_origin ∙ (c.requires.ready.home ∙ sym c.writei-answer.ensures.origin);
-    sizes = ap (λ q. q.sizes) c.writei-answer.ensures.origin ∙ c.requires.ready.sizes;
+    home = c.writei-answer.ensures.core.home ∙ (c.requires.ready.home ∙ sym c.writei-answer.ensures.front.stake.home);
+    sizes = ap (λ q. q.sizes) c.writei-answer.ensures.front.stake.home ∙ c.requires.ready.sizes;
   };
 }
