@@ -44,14 +44,31 @@ abbrev pub thirteen : List ℕ
 thirteen = 0 ∷ 0 ∷ 0 ∷ 0 ∷ 0 ∷ 0 ∷ 0 ∷ 0 ∷ 0 ∷ 0 ∷ 0 ∷ 0 ∷ 0 ∷ []
 
 pub zeros : (slot : ℕ) → get_or thirteen slot 0 ≡ 0
-zeros = zero-cons (0 ∷ 0 ∷ 0 ∷ 0 ∷ 0 ∷ 0 ∷ 0 ∷ 0 ∷ 0 ∷ 0 ∷ 0 ∷ 0 ∷ []) (zero-cons (0 ∷ 0 ∷ 0 ∷ 0 ∷ 0 ∷ 0 ∷ 0 ∷ 0 ∷ 0 ∷ 0 ∷ 0 ∷ []) (zero-cons (0 ∷ 0 ∷ 0 ∷ 0 ∷ 0 ∷ 0 ∷ 0 ∷ 0 ∷ 0 ∷ 0 ∷ []) (zero-cons (0 ∷ 0 ∷ 0 ∷ 0 ∷ 0 ∷ 0 ∷ 0 ∷ 0 ∷ 0 ∷ []) (zero-cons (0 ∷ 0 ∷ 0 ∷ 0 ∷ 0 ∷ 0 ∷ 0 ∷ 0 ∷ []) (zero-cons (0 ∷ 0 ∷ 0 ∷ 0 ∷ 0 ∷ 0 ∷ 0 ∷ []) (zero-cons (0 ∷ 0 ∷ 0 ∷ 0 ∷ 0 ∷ 0 ∷ []) (zero-cons (0 ∷ 0 ∷ 0 ∷ 0 ∷ 0 ∷ []) (zero-cons (0 ∷ 0 ∷ 0 ∷ 0 ∷ []) (zero-cons (0 ∷ 0 ∷ 0 ∷ []) (zero-cons (0 ∷ 0 ∷ []) (zero-cons (0 ∷ []) (zero-cons ([]) (λ slot. refl)))))))))))))
+zeros = zero-cons (0 ∷ 0 ∷ 0 ∷ 0 ∷ 0 ∷ 0 ∷ 0 ∷ 0 ∷ 0 ∷ 0 ∷ 0 ∷ 0 ∷ [])
+    (zero-cons (0 ∷ 0 ∷ 0 ∷ 0 ∷ 0 ∷ 0 ∷ 0 ∷ 0 ∷ 0 ∷ 0 ∷ 0 ∷ [])
+    (zero-cons (0 ∷ 0 ∷ 0 ∷ 0 ∷ 0 ∷ 0 ∷ 0 ∷ 0 ∷ 0 ∷ 0 ∷ [])
+    (zero-cons (0 ∷ 0 ∷ 0 ∷ 0 ∷ 0 ∷ 0 ∷ 0 ∷ 0 ∷ 0 ∷ [])
+    (zero-cons (0 ∷ 0 ∷ 0 ∷ 0 ∷ 0 ∷ 0 ∷ 0 ∷ 0 ∷ [])
+    (zero-cons (0 ∷ 0 ∷ 0 ∷ 0 ∷ 0 ∷ 0 ∷ 0 ∷ [])
+    (zero-cons (0 ∷ 0 ∷ 0 ∷ 0 ∷ 0 ∷ 0 ∷ [])
+    (zero-cons (0 ∷ 0 ∷ 0 ∷ 0 ∷ 0 ∷ [])
+    (zero-cons (0 ∷ 0 ∷ 0 ∷ 0 ∷ [])
+    (zero-cons (0 ∷ 0 ∷ 0 ∷ []) (zero-cons (0 ∷ 0 ∷ []) (zero-cons (0 ∷ []) (zero-cons ([]) (λ slot. refl)))))))))))))
 
 -- one page at the first direct address, and no other
 abbrev pub after-first : List ℕ
 after-first = 0 ∷ 0 ∷ 0 ∷ 0 ∷ 0 ∷ 0 ∷ 0 ∷ 0 ∷ 0 ∷ 0 ∷ 0 ∷ 0 ∷ []
 
 no-more : (slot : ℕ) → get_or after-first slot 0 ≡ 0
-no-more = zero-cons (0 ∷ 0 ∷ 0 ∷ 0 ∷ 0 ∷ 0 ∷ 0 ∷ 0 ∷ 0 ∷ 0 ∷ 0 ∷ []) (zero-cons (0 ∷ 0 ∷ 0 ∷ 0 ∷ 0 ∷ 0 ∷ 0 ∷ 0 ∷ 0 ∷ 0 ∷ []) (zero-cons (0 ∷ 0 ∷ 0 ∷ 0 ∷ 0 ∷ 0 ∷ 0 ∷ 0 ∷ 0 ∷ []) (zero-cons (0 ∷ 0 ∷ 0 ∷ 0 ∷ 0 ∷ 0 ∷ 0 ∷ 0 ∷ []) (zero-cons (0 ∷ 0 ∷ 0 ∷ 0 ∷ 0 ∷ 0 ∷ 0 ∷ []) (zero-cons (0 ∷ 0 ∷ 0 ∷ 0 ∷ 0 ∷ 0 ∷ []) (zero-cons (0 ∷ 0 ∷ 0 ∷ 0 ∷ 0 ∷ []) (zero-cons (0 ∷ 0 ∷ 0 ∷ 0 ∷ []) (zero-cons (0 ∷ 0 ∷ 0 ∷ []) (zero-cons (0 ∷ 0 ∷ []) (zero-cons (0 ∷ []) (zero-cons ([]) (λ slot. refl))))))))))))
+no-more = zero-cons (0 ∷ 0 ∷ 0 ∷ 0 ∷ 0 ∷ 0 ∷ 0 ∷ 0 ∷ 0 ∷ 0 ∷ 0 ∷ [])
+    (zero-cons (0 ∷ 0 ∷ 0 ∷ 0 ∷ 0 ∷ 0 ∷ 0 ∷ 0 ∷ 0 ∷ 0 ∷ [])
+    (zero-cons (0 ∷ 0 ∷ 0 ∷ 0 ∷ 0 ∷ 0 ∷ 0 ∷ 0 ∷ 0 ∷ [])
+    (zero-cons (0 ∷ 0 ∷ 0 ∷ 0 ∷ 0 ∷ 0 ∷ 0 ∷ 0 ∷ [])
+    (zero-cons (0 ∷ 0 ∷ 0 ∷ 0 ∷ 0 ∷ 0 ∷ 0 ∷ [])
+    (zero-cons (0 ∷ 0 ∷ 0 ∷ 0 ∷ 0 ∷ 0 ∷ [])
+    (zero-cons (0 ∷ 0 ∷ 0 ∷ 0 ∷ 0 ∷ [])
+    (zero-cons (0 ∷ 0 ∷ 0 ∷ 0 ∷ [])
+    (zero-cons (0 ∷ 0 ∷ 0 ∷ []) (zero-cons (0 ∷ 0 ∷ []) (zero-cons (0 ∷ []) (zero-cons ([]) (λ slot. refl))))))))))))
 
 pub first-tree : (o : Origin) (h : Held) (b : ℕ) → HoldsBlock o h b → IsTree o h (b ∷ after-first)
 first-tree o h b holds = record {
@@ -62,12 +79,14 @@ first-tree o h b holds = record {
       (one.0 ∙ sym two.0, one.1 ∙ sym two.1));
 }
   where
-    first : (slot : ℕ) (ks : List ℕ) → IsSpot (block_numbers o.sizes) slot ks → block_at h (b ∷ after-first) slot ks ≢ 0 → (slot ≡ 0) × (ks ≡ [])
+    first : (slot : ℕ) (ks : List ℕ) → IsSpot (block_numbers o.sizes) slot ks → block_at h (b ∷ after-first) slot ks ≢ 0
+        → (slot ≡ 0) × (ks ≡ [])
     first zero [] spot some = (refl, refl)
     first zero (k ∷ ks) spot some = absurd (omega (arith, spot.deep))
     first (suc m) ks spot some = absurd (some (down-hole h (get_or after-first m 0) ks (no-more m)))
 
-    whole : (slot : ℕ) (ks : List ℕ) → IsSpot (block_numbers o.sizes) slot ks → block_at h (b ∷ after-first) slot ks ≢ 0 → HoldsBlock o h (block_at h (b ∷ after-first) slot ks)
+    whole : (slot : ℕ) (ks : List ℕ) → IsSpot (block_numbers o.sizes) slot ks → block_at h (b ∷ after-first) slot ks ≢ 0
+        → HoldsBlock o h (block_at h (b ∷ after-first) slot ks)
     whole zero [] spot some = holds
     whole zero (k ∷ ks) spot some = absurd (omega (arith, spot.deep))
     whole (suc m) ks spot some = absurd (some (down-hole h (get_or after-first m 0) ks (no-more m)))

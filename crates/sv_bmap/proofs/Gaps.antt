@@ -1,5 +1,6 @@
 -- The blocks that are missing on the way to a page are the last ones on it.
-use Rattle.std.proofs.Common.{◌≡◌, ◌≢◌, ◌+◌, ◌-◌, ◌*◌, ◌<◌, ◌≤◌, ◌==◌, ◌&&◌, ℕ, zero, suc, List, [], ◌∷◌, Bool, true, false, length, max, get_or, take, arith, ap, refl, sym, ◌∙◌}
+use Rattle.std.proofs.Common.{◌≡◌, ◌≢◌, ◌+◌, ◌-◌, ◌*◌, ◌<◌, ◌≤◌, ◌==◌, ◌&&◌, ℕ, zero, suc, List, [], ◌∷◌, Bool, true, false, length, max}
+use Rattle.std.proofs.Common.{get_or, take, arith, ap, refl, sym, ◌∙◌}
 use Rattle.std.proofs.lemmas.Bool.{eqb-true}
 use Rattle.std.proofs.lemmas.Bool.Decides.{nat_tests}
 use Rattle.sv_form.specs.PagePath.{IsPath, page_of, block_numbers, first_single, first_double, first_triple}
@@ -50,7 +51,8 @@ gap h b [] = by (b == 0) refl
     }
 gap h b (k ∷ ks) = by (gap h (child h b k) ks) (b == 0) refl
   where
-    by : IsGap h (child h b k) ks (zeros h (child h b k) ks) → (t : Bool) → (b == 0) ≡ t → IsGap h b (k ∷ ks) (flag (b == 0) + zeros h (child h b k) ks)
+    by : IsGap h (child h b k) ks (zeros h (child h b k) ks) → (t : Bool) → (b == 0) ≡ t
+        → IsGap h b (k ∷ ks) (flag (b == 0) + zeros h (child h b k) ks)
     by rest true e =
         (let hole : b ≡ 0 = eqb-true b 0 e in
         let all : zeros h b (k ∷ ks) ≡ length (k ∷ ks) + 1 = hole-zeros h b (k ∷ ks) hole in
@@ -65,7 +67,8 @@ gap h b (k ∷ ks) = by (gap h (child h b k) ks) (b == 0) refl
       there = there;
     }
       where
-        holes : (i : ℕ) → length (k ∷ ks) + 1 - (flag (b == 0) + zeros h (child h b k) ks) ≤ i → i ≤ length (k ∷ ks) → down h b (take i (k ∷ ks)) ≡ 0
+        holes : (i : ℕ) → length (k ∷ ks) + 1 - (flag (b == 0) + zeros h (child h b k) ks) ≤ i → i ≤ length (k ∷ ks)
+            → down h b (take i (k ∷ ks)) ≡ 0
         holes zero low high = absurd (omega (arith, ap flag e, rest.few, low))
         holes (suc i) low high = rest.holes i (omega (arith, ap flag e, low)) (omega (arith, high))
 
@@ -80,23 +83,28 @@ and-true true = refl
 and-true false = refl
 
 own : (page from block : ℕ) → from ≤ page → flag (counts_at page page (record { from = from; block = block })) ≡ flag (block == 0)
-own page from block low = ap (λ q. flag ((block == 0) && q)) (same (max page from) page (omega (arith, low))) ∙ ap flag (and-true (block == 0))
+own page from block low = ap (λ q. flag ((block == 0) && q)) (same (max page from) page (omega (arith, low)))
+    ∙ ap flag (and-true (block == 0))
   where
     same : (x y : ℕ) → x ≡ y → (x == y) ≡ true
     same x y h = grind (nat_tests, arith)
 
-need-own : (g : Geometry) (h : Held) (a : List ℕ) (p : PagePath) (page : ℕ) → IsPath g p → page_of g p ≡ page → need_at g h a page page ≡ zeros h (get_or a (slot_of p) 0) (places_of p)
-need-own g h a (Direct i) page is at = need-is g g h a (Direct i) page page refl is at ∙ (count-one (counts_at page page) _ ∙ own page i (get_or a i 0) (omega (arith, at)))
+need-own : (g : Geometry) (h : Held) (a : List ℕ) (p : PagePath) (page : ℕ) → IsPath g p → page_of g p ≡ page
+    → need_at g h a page page ≡ zeros h (get_or a (slot_of p) 0) (places_of p)
+need-own g h a (Direct i) page is at = need-is g g h a (Direct i) page page refl is at
+    ∙ (count-one (counts_at page page) _ ∙ own page i (get_or a i 0) (omega (arith, at)))
 need-own g h a (Single i) page is at =
     need-is g g h a (Single i) page page refl is at
     ∙ (count-two (counts_at page page) _ _
-    ∙ plus (own page (first_single + 0) (get_or a 10 0) (omega (arith, at))) (own page (first_single + i) (child h (get_or a 10 0) i) (omega (arith, at))))
+    ∙ plus (own page (first_single + 0) (get_or a 10 0) (omega (arith, at)))
+    (own page (first_single + i) (child h (get_or a 10 0) i) (omega (arith, at))))
 need-own g h a (Double i j) page is at =
     let n : ℕ = block_numbers g in
     need-is g g h a (Double i j) page page refl is at
     ∙ (count-three (counts_at page page) _ _ _
     ∙ plus (own page (first_double n + (0 * n + 0)) (get_or a 11 0) (omega (arith, at, row-grows n 0 0 i j (omega arith) (omega arith))))
-    (plus (own page (first_double n + (i * n + 0)) (child h (get_or a 11 0) i) (omega (arith, at))) (own page (first_double n + (i * n + j)) (child h (child h (get_or a 11 0) i) j) (omega (arith, at)))))
+    (plus (own page (first_double n + (i * n + 0)) (child h (get_or a 11 0) i) (omega (arith, at)))
+    (own page (first_double n + (i * n + j)) (child h (child h (get_or a 11 0) i) j) (omega (arith, at)))))
 need-own g h a (Triple i j k) page is at =
     let n : ℕ = block_numbers g in
     let x : ℕ = first_triple n in
@@ -104,12 +112,15 @@ need-own g h a (Triple i j k) page is at =
     let rows : i * n + 0 ≤ i * n + j = omega arith in
     need-is g g h a (Triple i j k) page page refl is at
     ∙ (count-four (counts_at page page) _ _ _ _
-    ∙ plus (own page (x + ((0 * n + 0) * n + 0)) (get_or a 12 0) (omega (arith, at, row-grows n (0 * n + 0) 0 (i * n + j) k first-rows (omega arith))))
-    (plus (own page (x + ((i * n + 0) * n + 0)) (child h (get_or a 12 0) i) (omega (arith, at, row-grows n (i * n + 0) 0 (i * n + j) k rows (omega arith))))
+    ∙ plus (own page (x + ((0 * n + 0) * n + 0)) (get_or a 12 0)
+    (omega (arith, at, row-grows n (0 * n + 0) 0 (i * n + j) k first-rows (omega arith))))
+    (plus (own page (x + ((i * n + 0) * n + 0)) (child h (get_or a 12 0) i)
+    (omega (arith, at, row-grows n (i * n + 0) 0 (i * n + j) k rows (omega arith))))
     (plus (own page (x + ((i * n + j) * n + 0)) (child h (child h (get_or a 12 0) i) j) (omega (arith, at)))
     (own page (x + ((i * n + j) * n + k)) (child h (child h (child h (get_or a 12 0) i) j) k) (omega (arith, at))))))
 
-pub need-zeros : (g : Geometry) (h : Held) (a : List ℕ) (p : PagePath) (page : ℕ) → IsPath g p → page_of g p ≡ page → need_of g h a page 1 ≡ zeros h (get_or a (slot_of p) 0) (places_of p)
+pub need-zeros : (g : Geometry) (h : Held) (a : List ℕ) (p : PagePath) (page : ℕ) → IsPath g p → page_of g p ≡ page
+    → need_of g h a page 1 ≡ zeros h (get_or a (slot_of p) 0) (places_of p)
 need-zeros g h a p page is at =
     let same : page + 0 ≡ page = omega arith in
     omega (arith, need-more g h a page 0, need-none g h a page, ap (need_at g h a page) same, need-own g h a p page is at)

@@ -1,5 +1,6 @@
 -- What a page counts of the missing blocks on its way.
-use Rattle.std.proofs.Common.{◌≡◌, ◌≢◌, ◌+◌, ◌*◌, ◌/◌, ◌%◌, ◌<◌, ◌≤◌, ◌==◌, ◌&&◌, ◌||◌, ℕ, zero, suc, List, [], ◌∷◌, Bool, true, false, cond, max, get_or, arith, ap, refl, sym, subst, ◌∙◌}
+use Rattle.std.proofs.Common.{◌≡◌, ◌≢◌, ◌+◌, ◌*◌, ◌/◌, ◌%◌, ◌<◌, ◌≤◌, ◌==◌, ◌&&◌, ◌||◌, ℕ, zero, suc, List, [], ◌∷◌, Bool, true, false}
+use Rattle.std.proofs.Common.{cond, max, get_or, arith, ap, refl, sym, subst, ◌∙◌}
 use Rattle.std.specs.List.{count_by, sum_by, range_with_len}
 use Rattle.std.proofs.lemmas.List.Sums.{sum_by-cons}
 use Rattle.std.proofs.lemmas.Bool.{eqb-true}
@@ -26,8 +27,10 @@ sum-more f a (suc k) =
     let at : a + 1 + k ≡ a + suc k = omega arith in
     let same : f (a + 1 + k) ≡ f (a + suc k) = ap f at in
     let rest : sum_by f (range_with_len (a + 1) (k + 1)) ≡ sum_by f (range_with_len (a + 1) k) + f (a + 1 + k) = sum-more f (a + 1) k in
-    let before : sum_by f (a ∷ range_with_len (a + 1) k) ≡ f a + sum_by f (range_with_len (a + 1) k) = sum_by-cons f a (range_with_len (a + 1) k) in
-    let after : sum_by f (a ∷ range_with_len (a + 1) (k + 1)) ≡ f a + sum_by f (range_with_len (a + 1) (k + 1)) = sum_by-cons f a (range_with_len (a + 1) (k + 1)) in
+    let before : sum_by f (a ∷ range_with_len (a + 1) k) ≡ f a + sum_by f (range_with_len (a + 1) k) = sum_by-cons f a
+    (range_with_len (a + 1) k) in
+    let after : sum_by f (a ∷ range_with_len (a + 1) (k + 1)) ≡ f a + sum_by f (range_with_len (a + 1) (k + 1)) = sum_by-cons f a
+    (range_with_len (a + 1) (k + 1)) in
     let turn : suc k + 1 ≡ suc (k + 1) = omega arith in
     ap (λ q. sum_by f (range_with_len a q)) turn ∙ omega (arith, same, rest, before, after)
 
@@ -39,7 +42,8 @@ pub need-none : (g : Geometry) (h : Held) (a : List ℕ) (first : ℕ) → 0 ≡
 unfolding need_of
 need-none g h a first = refl
 
-pub need-more : (g : Geometry) (h : Held) (a : List ℕ) (first k : ℕ) → need_of g h a first (k + 1) ≡ need_of g h a first k + need_at g h a first (first + k)
+pub need-more : (g : Geometry) (h : Held) (a : List ℕ) (first k : ℕ)
+    → need_of g h a first (k + 1) ≡ need_of g h a first k + need_at g h a first (first + k)
 unfolding need_of
 need-more g h a first k = sum-more (need_at g h a first) first k
 
@@ -82,15 +86,19 @@ first-counts first from page low lower = by (page == first) (from == page) refl 
     by true t p q = ap (λ x. x || (from == page)) p ∙ sym (same (max first from) page (omega (arith, yes page first p, lower)))
     by false true p q = ap (λ x. x || (from == page)) p ∙ (q ∙ sym (same (max first from) page (omega (arith, yes from page q, low))))
     by false false p q =
-        ap (λ x. x || (from == page)) p ∙ (q ∙ sym (differ (max first from) page (λ e. (let f : page ≢ first = no page first p in let t : from ≢ page = no from page q in absurd (omega arith)))))
+        ap (λ x. x || (from == page)) p
+        ∙ (q ∙ sym (differ (max first from) page
+        (λ e. (let f : page ≢ first = no page first p in let t : from ≢ page = no from page q in absurd (omega arith)))))
 
 -- one step of the way, counted or not, as the code counts it
-one : (first page from block : ℕ) (zeros : Bool) → first ≤ page → from ≤ page → zeros ≡ (from == page) → flag ((block == 0) && ((page == first) || zeros)) ≡ flag (counts_at first page (record { from = from; block = block }))
+one : (first page from block : ℕ) (zeros : Bool) → first ≤ page → from ≤ page → zeros ≡ (from == page)
+    → flag ((block == 0) && ((page == first) || zeros)) ≡ flag (counts_at first page (record { from = from; block = block }))
 one first page from block zeros low lower e =
     ap (λ q. flag ((block == 0) && ((page == first) || q))) e ∙ ap (λ q. flag ((block == 0) && q)) (first-counts first from page low lower)
 
 -- the page itself
-last : (first page from block : ℕ) → first ≤ page → from ≡ page → flag ((block == 0) && true) ≡ flag (counts_at first page (record { from = from; block = block }))
+last : (first page from block : ℕ) → first ≤ page → from ≡ page
+    → flag ((block == 0) && true) ≡ flag (counts_at first page (record { from = from; block = block }))
 last first page from block low e = ap (λ q. flag ((block == 0) && q)) (sym (same (max first from) page (omega (arith, low, e))))
   where
     same : (x y : ℕ) → x ≡ y → (x == y) ≡ true
@@ -105,10 +113,12 @@ count-two f x y = count-cons f x (y ∷ []) ∙ ap (λ q. flag (f x) + q) (count
 pub count-three : (f : Step → Bool) (x y z : Step) → count_by f (x ∷ y ∷ z ∷ []) ≡ flag (f x) + (flag (f y) + flag (f z))
 count-three f x y z = count-cons f x (y ∷ z ∷ []) ∙ ap (λ q. flag (f x) + q) (count-two f y z)
 
-pub count-four : (f : Step → Bool) (w x y z : Step) → count_by f (w ∷ x ∷ y ∷ z ∷ []) ≡ flag (f w) + (flag (f x) + (flag (f y) + flag (f z)))
+pub count-four : (f : Step → Bool) (w x y z : Step)
+    → count_by f (w ∷ x ∷ y ∷ z ∷ []) ≡ flag (f w) + (flag (f x) + (flag (f y) + flag (f z)))
 count-four f w x y z = count-cons f w (x ∷ y ∷ z ∷ []) ∙ ap (λ q. flag (f w) + q) (count-three f x y z)
 
-pub need-is : (g g' : Geometry) (h : Held) (a : List ℕ) (p : PagePath) (first page : ℕ) → g' ≡ g → IsPath g' p → page_of g' p ≡ page → need_at g h a first page ≡ count_by (counts_at first page) (way g' h a p)
+pub need-is : (g g' : Geometry) (h : Held) (a : List ℕ) (p : PagePath) (first page : ℕ) → g' ≡ g → IsPath g' p → page_of g' p ≡ page
+    → need_at g h a first page ≡ count_by (counts_at first page) (way g' h a p)
 unfolding need_at
 need-is g g' h a p first page e is at =
     ap (λ q. count_by (counts_at first page) (way q h a (path (block_numbers q) page))) (sym e)
@@ -140,18 +150,27 @@ both a b c d x y to from = by (a == b) refl
 
 -- ---- the four paths
 
-pub need-direct : (g g' : Geometry) (h : Held) (a : List ℕ) (first page i block : ℕ) → g' ≡ g → IsPath g' (Direct i) → page_of g' (Direct i) ≡ page → first ≤ page → block ≡ get_or a i 0 → flag ((block == 0) && true) ≡ need_at g h a first page
+pub need-direct : (g g' : Geometry) (h : Held) (a : List ℕ) (first page i block : ℕ) → g' ≡ g → IsPath g' (Direct i)
+    → page_of g' (Direct i) ≡ page → first ≤ page → block ≡ get_or a i 0 → flag ((block == 0) && true) ≡ need_at g h a first page
 need-direct g g' h a first page i block e is at low named =
     last first page i block low at
     ∙ (ap (λ q. flag (counts_at first page (record { from = i; block = q }))) named
     ∙ sym (need-is g g' h a (Direct i) first page e is at ∙ count-one (counts_at first page) (record { from = i; block = get_or a i 0 })))
 
-pub need-single : (g g' : Geometry) (h : Held) (a : List ℕ) (first page i block : ℕ) → g' ≡ g → IsPath g' (Single i) → page_of g' (Single i) ≡ page → first ≤ page → block ≡ child h (get_or a 10 0) i → flag ((get_or a 10 0 == 0) && ((page == first) || (i == 0))) + flag ((block == 0) && true) ≡ need_at g h a first page
+pub need-single : (g g' : Geometry) (h : Held) (a : List ℕ) (first page i block : ℕ) → g' ≡ g → IsPath g' (Single i)
+    → page_of g' (Single i) ≡ page → first ≤ page → block ≡ child h (get_or a 10 0) i
+    → flag ((get_or a 10 0 == 0) && ((page == first) || (i == 0))) + flag ((block == 0) && true) ≡ need_at g h a first page
 need-single g g' h a first page i block e is at low named =
-    ap (λ q. q + flag ((block == 0) && true)) (one first page (first_single + 0) (get_or a 10 0) (i == 0) low (omega (arith, at)) (tests-same i 0 (first_single + 0) page (λ z. omega (arith, at, z)) (λ z. omega (arith, at, z))))
-    ∙ (ap (λ q. flag (counts_at first page (record { from = first_single + 0; block = get_or a 10 0 })) + q) (last first page (first_single + i) block low at)
-    ∙ (ap (λ q. flag (counts_at first page (record { from = first_single + 0; block = get_or a 10 0 })) + flag (counts_at first page (record { from = first_single + i; block = q }))) named
-    ∙ sym (need-is g g' h a (Single i) first page e is at ∙ count-two (counts_at first page) (record { from = first_single + 0; block = get_or a 10 0 }) (record { from = first_single + i; block = child h (get_or a 10 0) i }))))
+    ap (λ q. q + flag ((block == 0) && true))
+    (one first page (first_single + 0) (get_or a 10 0) (i == 0) low (omega (arith, at))
+    (tests-same i 0 (first_single + 0) page (λ z. omega (arith, at, z)) (λ z. omega (arith, at, z))))
+    ∙ (ap (λ q. flag (counts_at first page (record { from = first_single + 0; block = get_or a 10 0 })) + q)
+    (last first page (first_single + i) block low at)
+    ∙ (ap (λ q. flag (counts_at first page (record { from = first_single + 0; block = get_or a 10 0 })) + flag
+    (counts_at first page (record { from = first_single + i; block = q }))) named
+    ∙ sym (need-is g g' h a (Single i) first page e is at
+    ∙ count-two (counts_at first page) (record { from = first_single + 0; block = get_or a 10 0 })
+    (record { from = first_single + i; block = child h (get_or a 10 0) i }))))
 
 sum-three : (a b c x y z : ℕ) → a ≡ x → b ≡ y → c ≡ z → a + b + c ≡ x + (y + z)
 sum-three a b c x y z p q r = omega (arith, p, q, r)
@@ -159,23 +178,38 @@ sum-three a b c x y z p q r = omega (arith, p, q, r)
 sum-four : (a b c d w x y z : ℕ) → a ≡ w → b ≡ x → c ≡ y → d ≡ z → a + b + c + d ≡ w + (x + (y + z))
 sum-four a b c d w x y z p q r s = omega (arith, p, q, r, s)
 
-renamed : (first page from : ℕ) {x y : ℕ} → x ≡ y → flag (counts_at first page (record { from = from; block = x })) ≡ flag (counts_at first page (record { from = from; block = y }))
+renamed : (first page from : ℕ) {x y : ℕ} → x ≡ y
+    → flag (counts_at first page (record { from = from; block = x })) ≡ flag (counts_at first page (record { from = from; block = y }))
 renamed first page from e = ap (λ q. flag (counts_at first page (record { from = from; block = q }))) e
 
-pub need-double : (g g' : Geometry) (h : Held) (a : List ℕ) (first page i j middle block : ℕ) → g' ≡ g → IsPath g' (Double i j) → page_of g' (Double i j) ≡ page → first ≤ page → middle ≡ child h (get_or a 11 0) i → block ≡ child h (child h (get_or a 11 0) i) j → flag ((get_or a 11 0 == 0) && ((page == first) || ((i == 0) && (j == 0)))) + flag ((middle == 0) && ((page == first) || (j == 0))) + flag ((block == 0) && true) ≡ need_at g h a first page
+pub need-double : (g g' : Geometry) (h : Held) (a : List ℕ) (first page i j middle block : ℕ) → g' ≡ g → IsPath g' (Double i j)
+    → page_of g' (Double i j) ≡ page → first ≤ page → middle ≡ child h (get_or a 11 0) i → block ≡ child h (child h (get_or a 11 0) i) j
+    → flag ((get_or a 11 0 == 0) && ((page == first) || ((i == 0) && (j == 0)))) + flag ((middle == 0) && ((page == first) || (j == 0)))
+    + flag ((block == 0) && true) ≡ need_at g h a first page
 need-double g g' h a first page i j middle block e is at low here there =
     let n : ℕ = block_numbers g' in
     let some : 0 < n = omega (arith, is.0) in
     sum-three _ _ _ _ _ _
-    (one first page (first_double n + (0 * n + 0)) (get_or a 11 0) ((i == 0) && (j == 0)) low (omega (arith, at, row-grows n 0 0 i j (omega arith) (omega arith)))
-    (both i 0 j 0 (first_double n + (0 * n + 0)) page (λ p q. ap (λ z. first_double n + (z * n + 0)) (sym p) ∙ (ap (λ z. first_double n + (i * n + z)) (sym q) ∙ at))
+    (one first page (first_double n + (0 * n + 0)) (get_or a 11 0) ((i == 0) && (j == 0)) low
+    (omega (arith, at, row-grows n 0 0 i j (omega arith) (omega arith)))
+    (both i 0 j 0 (first_double n + (0 * n + 0)) page
+    (λ p q. ap (λ z. first_double n + (z * n + 0)) (sym p) ∙ (ap (λ z. first_double n + (i * n + z)) (sym q) ∙ at))
     (λ z. (let w : i * n + j ≡ 0 * n + 0 = omega (arith, at, z) in (same_row n i j 0 0 is.1 some w, same_column n i j 0 0 is.1 some w)))))
-    (one first page (first_double n + (i * n + 0)) middle (j == 0) low (omega (arith, at)) (tests-same j 0 (first_double n + (i * n + 0)) page (λ z. omega (arith, at, z)) (λ z. omega (arith, at, z)))
+    (one first page (first_double n + (i * n + 0)) middle (j == 0) low (omega (arith, at))
+    (tests-same j 0 (first_double n + (i * n + 0)) page (λ z. omega (arith, at, z)) (λ z. omega (arith, at, z)))
     ∙ renamed first page (first_double n + (i * n + 0)) here)
     (last first page (first_double n + (i * n + j)) block low at ∙ renamed first page (first_double n + (i * n + j)) there)
-    ∙ sym (need-is g g' h a (Double i j) first page e is at ∙ count-three (counts_at first page) (record { from = first_double n + (0 * n + 0); block = get_or a 11 0 }) (record { from = first_double n + (i * n + 0); block = child h (get_or a 11 0) i }) (record { from = first_double n + (i * n + j); block = child h (child h (get_or a 11 0) i) j }))
+    ∙ sym (need-is g g' h a (Double i j) first page e is at
+    ∙ count-three (counts_at first page) (record { from = first_double n + (0 * n + 0); block = get_or a 11 0 })
+    (record { from = first_double n + (i * n + 0); block = child h (get_or a 11 0) i })
+    (record { from = first_double n + (i * n + j); block = child h (child h (get_or a 11 0) i) j }))
 
-pub need-triple : (g g' : Geometry) (h : Held) (a : List ℕ) (first page i j k upper lower block : ℕ) → g' ≡ g → IsPath g' (Triple i j k) → page_of g' (Triple i j k) ≡ page → first ≤ page → upper ≡ child h (get_or a 12 0) i → lower ≡ child h (child h (get_or a 12 0) i) j → block ≡ child h (child h (child h (get_or a 12 0) i) j) k → flag ((get_or a 12 0 == 0) && ((page == first) || ((i == 0) && ((j == 0) && (k == 0))))) + flag ((upper == 0) && ((page == first) || ((j == 0) && (k == 0)))) + flag ((lower == 0) && ((page == first) || (k == 0))) + flag ((block == 0) && true) ≡ need_at g h a first page
+pub need-triple : (g g' : Geometry) (h : Held) (a : List ℕ) (first page i j k upper lower block : ℕ) → g' ≡ g → IsPath g' (Triple i j k)
+    → page_of g' (Triple i j k) ≡ page → first ≤ page → upper ≡ child h (get_or a 12 0) i → lower ≡ child h (child h (get_or a 12 0) i) j
+    → block ≡ child h (child h (child h (get_or a 12 0) i) j) k
+    → flag ((get_or a 12 0 == 0) && ((page == first) || ((i == 0) && ((j == 0) && (k == 0))))) + flag
+    ((upper == 0) && ((page == first) || ((j == 0) && (k == 0)))) + flag ((lower == 0) && ((page == first) || (k == 0))) + flag
+    ((block == 0) && true) ≡ need_at g h a first page
 need-triple g g' h a first page i j k upper lower block e is at low here there lowest =
     let n : ℕ = block_numbers g' in
     let some : 0 < n = omega (arith, is.0) in
@@ -183,26 +217,44 @@ need-triple g g' h a first page i j k upper lower block e is at low here there l
     let first-rows : 0 * n + 0 ≤ i * n + j = row-grows n 0 0 i j (omega arith) (omega arith) in
     let rows : i * n + 0 ≤ i * n + j = omega arith in
     sum-four _ _ _ _ _ _ _ _
-    (one first page (x + ((0 * n + 0) * n + 0)) (get_or a 12 0) ((i == 0) && ((j == 0) && (k == 0))) low (omega (arith, at, row-grows n (0 * n + 0) 0 (i * n + j) k first-rows (omega arith)))
+    (one first page (x + ((0 * n + 0) * n + 0)) (get_or a 12 0) ((i == 0) && ((j == 0) && (k == 0))) low
+    (omega (arith, at, row-grows n (0 * n + 0) 0 (i * n + j) k first-rows (omega arith)))
     (three-zero n x page i j k some is.1 is.2 at))
-    (one first page (x + ((i * n + 0) * n + 0)) upper ((j == 0) && (k == 0)) low (omega (arith, at, row-grows n (i * n + 0) 0 (i * n + j) k rows (omega arith)))
+    (one first page (x + ((i * n + 0) * n + 0)) upper ((j == 0) && (k == 0)) low
+    (omega (arith, at, row-grows n (i * n + 0) 0 (i * n + j) k rows (omega arith)))
     (two-zero n x page i j k some is.2 at)
     ∙ renamed first page (x + ((i * n + 0) * n + 0)) here)
-    (one first page (x + ((i * n + j) * n + 0)) lower (k == 0) low (omega (arith, at)) (tests-same k 0 (x + ((i * n + j) * n + 0)) page (λ z. omega (arith, at, z)) (λ z. omega (arith, at, z)))
+    (one first page (x + ((i * n + j) * n + 0)) lower (k == 0) low (omega (arith, at))
+    (tests-same k 0 (x + ((i * n + j) * n + 0)) page (λ z. omega (arith, at, z)) (λ z. omega (arith, at, z)))
     ∙ renamed first page (x + ((i * n + j) * n + 0)) there)
     (last first page (x + ((i * n + j) * n + k)) block low at ∙ renamed first page (x + ((i * n + j) * n + k)) lowest)
-    ∙ sym (need-is g g' h a (Triple i j k) first page e is at ∙ count-four (counts_at first page) (record { from = x + ((0 * n + 0) * n + 0); block = get_or a 12 0 }) (record { from = x + ((i * n + 0) * n + 0); block = child h (get_or a 12 0) i }) (record { from = x + ((i * n + j) * n + 0); block = child h (child h (get_or a 12 0) i) j }) (record { from = x + ((i * n + j) * n + k); block = child h (child h (child h (get_or a 12 0) i) j) k }))
+    ∙ sym (need-is g g' h a (Triple i j k) first page e is at
+    ∙ count-four (counts_at first page) (record { from = x + ((0 * n + 0) * n + 0); block = get_or a 12 0 })
+    (record { from = x + ((i * n + 0) * n + 0); block = child h (get_or a 12 0) i })
+    (record { from = x + ((i * n + j) * n + 0); block = child h (child h (get_or a 12 0) i) j })
+    (record { from = x + ((i * n + j) * n + k); block = child h (child h (child h (get_or a 12 0) i) j) k }))
   where
-    two-zero : (n x page i j k : ℕ) → 0 < n → k < n → x + ((i * n + j) * n + k) ≡ page → ((j == 0) && (k == 0)) ≡ (x + ((i * n + 0) * n + 0) == page)
+    two-zero : (n x page i j k : ℕ) → 0 < n → k < n → x + ((i * n + j) * n + k) ≡ page
+        → ((j == 0) && (k == 0)) ≡ (x + ((i * n + 0) * n + 0) == page)
     two-zero n x page i j k some column at =
-        both j 0 k 0 (x + ((i * n + 0) * n + 0)) page (λ p q. ap (λ z. x + ((i * n + z) * n + 0)) (sym p) ∙ (ap (λ z. x + ((i * n + j) * n + z)) (sym q) ∙ at))
-        (λ z. (let w : (i * n + j) * n + k ≡ (i * n + 0) * n + 0 = omega (arith, at, z) in (let r : i * n + j ≡ i * n + 0 = same_row n (i * n + j) k (i * n + 0) 0 column some w in omega (arith, r), same_column n (i * n + j) k (i * n + 0) 0 column some w)))
+        both j 0 k 0 (x + ((i * n + 0) * n + 0)) page
+        (λ p q. ap (λ z. x + ((i * n + z) * n + 0)) (sym p) ∙ (ap (λ z. x + ((i * n + j) * n + z)) (sym q) ∙ at))
+        (λ z. (let w : (i * n + j) * n + k ≡ (i * n + 0) * n + 0 =
+        omega (arith, at, z) in (
+          let r : i * n + j ≡ i * n + 0 = same_row n (i * n + j) k (i * n + 0) 0 column some w in omega
+              (arith, r),
+          same_column n (i * n + j) k (i * n + 0) 0 column some w,
+        )))
 
-    three-zero : (n x page i j k : ℕ) → 0 < n → j < n → k < n → x + ((i * n + j) * n + k) ≡ page → ((i == 0) && ((j == 0) && (k == 0))) ≡ (x + ((0 * n + 0) * n + 0) == page)
+    three-zero : (n x page i j k : ℕ) → 0 < n → j < n → k < n → x + ((i * n + j) * n + k) ≡ page
+        → ((i == 0) && ((j == 0) && (k == 0))) ≡ (x + ((0 * n + 0) * n + 0) == page)
     three-zero n x page i j k some row column at =
         ap (λ q. (i == 0) && q) (two-zero n x page i j k some column at)
-        ∙ both i 0 (x + ((i * n + 0) * n + 0)) page (x + ((0 * n + 0) * n + 0)) page (λ p q. ap (λ z. x + ((z * n + 0) * n + 0)) (sym p) ∙ q)
-        (λ z. (let w : (i * n + j) * n + k ≡ (0 * n + 0) * n + 0 = omega (arith, at, z) in let r : i * n + j ≡ 0 * n + 0 = same_row n (i * n + j) k (0 * n + 0) 0 column some w in let p : i ≡ 0 = same_row n i j 0 0 row some r in (p, ap (λ q. x + ((q * n + 0) * n + 0)) p ∙ z)))
+        ∙ both i 0 (x + ((i * n + 0) * n + 0)) page (x + ((0 * n + 0) * n + 0)) page
+        (λ p q. ap (λ z. x + ((z * n + 0) * n + 0)) (sym p) ∙ q)
+        (λ z. (let w : (i * n + j) * n + k ≡ (0 * n + 0) * n + 0 = omega (arith, at, z) in let r : i * n + j ≡ 0 * n + 0 =
+        same_row n (i * n + j) k (0 * n + 0) 0 column some w in let p : i ≡ 0 =
+        same_row n i j 0 0 row some r in (p, ap (λ q. x + ((q * n + 0) * n + 0)) p ∙ z)))
 
 -- what was so before the reads of a page is so after them
 pub tree-after : {o o' : Origin} {h h' : Held} {a : List ℕ} → o' ≡ o → h' ≡ h → IsTree o h a → IsTree o' h' a
@@ -211,5 +263,6 @@ tree-after {o} {o'} {h} {h'} {a} p q tree =
     let Q : Held → Type 0 = λ x. IsTree o x a in
     subst P (sym p) (subst Q (sym q) tree)
 
-pub need-after : (o o' : Origin) (h h' : Held) (a : List ℕ) (first page : ℕ) → o' ≡ o → h' ≡ h → need_at o'.sizes h' a first page ≡ need_at o.sizes h a first page
+pub need-after : (o o' : Origin) (h h' : Held) (a : List ℕ) (first page : ℕ) → o' ≡ o → h' ≡ h
+    → need_at o'.sizes h' a first page ≡ need_at o.sizes h a first page
 need-after o o' h h' a first page p q = ap (λ x. need_at x.sizes h' a first page) p ∙ ap (λ x. need_at o.sizes x a first page) q

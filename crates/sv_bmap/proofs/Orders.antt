@@ -1,5 +1,6 @@
 -- Blocks under a block, one place after another.
-use Rattle.std.proofs.Common.{◌≡◌, ◌≢◌, ◌≤◌, ◌<◌, ◌+◌, ◌-◌, ◌++◌, ◌==◌, ℕ, zero, suc, false, cond, List, [], ◌∷◌, length, get_or, ap, refl, sym, ◌∙◌, subst, arith, append_assoc}
+use Rattle.std.proofs.Common.{◌≡◌, ◌≢◌, ◌≤◌, ◌<◌, ◌+◌, ◌-◌, ◌++◌, ◌==◌, ℕ, zero, suc, false, cond, List, [], ◌∷◌, length, get_or, ap}
+use Rattle.std.proofs.Common.{refl, sym, ◌∙◌, subst, arith, append_assoc}
 use Rattle.std.specs.List.{flat_map, range_with_len}
 use Rattle.std.proofs.lemmas.Bool.Decides.{nat_tests}
 use Rattle.std.proofs.lemmas.List.{flat_map_more, append-nil}
@@ -11,7 +12,8 @@ use Rattle.sv_bmap.specs.Tree.{child, IsTree}
 use Rattle.sv_bmap.specs.Order.{blocks_below, blocks_of, HeldBelow}
 
 -- one place more
-pub added : (f : ℕ → List ℕ) (start before after : List ℕ) (k : ℕ) → before ≡ start ++ flat_map f (range_with_len 0 k) → after ≡ before ++ f k → after ≡ start ++ flat_map f (range_with_len 0 (k + 1))
+pub added : (f : ℕ → List ℕ) (start before after : List ℕ) (k : ℕ) → before ≡ start ++ flat_map f (range_with_len 0 k)
+    → after ≡ before ++ f k → after ≡ start ++ flat_map f (range_with_len 0 (k + 1))
 added f start before after k e d =
     let at : 0 + k ≡ k = omega arith in
     d
@@ -30,9 +32,11 @@ pub page-below : (n : ℕ) (h : Held) (b : ℕ) → blocks_below n h 0 b ≡ con
 unfolding Rattle.sv_form.specs.AddressTree.blocks_below
 page-below n h b = refl
 
-pub below-there : (n : ℕ) (h : Held) (d b : ℕ) → b ≢ 0 → blocks_below n h (suc d) b ≡ flat_map (λ k. blocks_below n h d (child h b k)) (range_with_len 0 n) ++ b ∷ []
+pub below-there : (n : ℕ) (h : Held) (d b : ℕ) → b ≢ 0
+    → blocks_below n h (suc d) b ≡ flat_map (λ k. blocks_below n h d (child h b k)) (range_with_len 0 n) ++ b ∷ []
 unfolding Rattle.sv_form.specs.AddressTree.blocks_below
-below-there n h d b some = ap (λ q. cond q [] (flat_map (λ k. blocks_below n h d (child h b k)) (range_with_len 0 n) ++ b ∷ [])) (apart b 0 some)
+below-there n h d b some = ap (λ q. cond q [] (flat_map (λ k. blocks_below n h d (child h b k)) (range_with_len 0 n) ++ b ∷ []))
+    (apart b 0 some)
 
 pub below-hole : (n : ℕ) (h : Held) (d b : ℕ) → b ≡ 0 → blocks_below n h (suc d) b ≡ []
 unfolding Rattle.sv_form.specs.AddressTree.blocks_below
@@ -42,21 +46,26 @@ pub nothing-added : (n : ℕ) (h : Held) (d b : ℕ) (start : List ℕ) → b �
 nothing-added n h d b start e = sym (ap (λ q. start ++ q) (below-hole n h d b e) ∙ append-nil start)
 
 -- the block itself comes last
-pub all-added : (n m : ℕ) (h : Held) (d b : ℕ) (start before after : List ℕ) → b ≢ 0 → m ≡ n → before ≡ start ++ flat_map (λ k. blocks_below n h d (child h b k)) (range_with_len 0 m) → after ≡ before ++ b ∷ [] → after ≡ start ++ blocks_below n h (suc d) b
+pub all-added : (n m : ℕ) (h : Held) (d b : ℕ) (start before after : List ℕ) → b ≢ 0 → m ≡ n
+    → before ≡ start ++ flat_map (λ k. blocks_below n h d (child h b k)) (range_with_len 0 m) → after ≡ before ++ b ∷ []
+    → after ≡ start ++ blocks_below n h (suc d) b
 all-added n m h d b start before after some long e last =
     last
     ∙ (ap (λ q. q ++ b ∷ []) (e ∙ ap (λ q. start ++ flat_map (λ k. blocks_below n h d (child h b k)) (range_with_len 0 q)) long)
-    ∙ (append_assoc start (flat_map (λ k. blocks_below n h d (child h b k)) (range_with_len 0 n)) (b ∷ []) ∙ ap (λ q. start ++ q) (sym (below-there n h d b some))))
+    ∙ (append_assoc start (flat_map (λ k. blocks_below n h d (child h b k)) (range_with_len 0 n)) (b ∷ [])
+    ∙ ap (λ q. start ++ q) (sym (below-there n h d b some))))
 
 -- ---- what is held
 
 pub held-top : {o : Origin} {h : Held} {d b : ℕ} → HeldBelow o h d b → b ≢ 0 → HoldsBlock o h b
 held-top below some = below.at [] (omega arith) (λ i low. absurd (omega arith)) some
 
-pub held-child : {o : Origin} {h : Held} {d b : ℕ} → HeldBelow o h (suc d) b → (k : ℕ) → k < block_numbers o.sizes → HeldBelow o h d (child h b k)
+pub held-child : {o : Origin} {h : Held} {d b : ℕ} → HeldBelow o h (suc d) b → (k : ℕ) → k < block_numbers o.sizes
+    → HeldBelow o h d (child h b k)
 held-child {o} {h} {d} {b} below k low = record { at = λ ks deep each some. below.at (k ∷ ks) (omega (arith, deep)) (all ks each) some }
   where
-    all : (ks : List ℕ) → ((i : ℕ) → i < length ks → get_or ks i 0 < block_numbers o.sizes) → (i : ℕ) → i < length (k ∷ ks) → get_or (k ∷ ks) i 0 < block_numbers o.sizes
+    all : (ks : List ℕ) → ((i : ℕ) → i < length ks → get_or ks i 0 < block_numbers o.sizes) → (i : ℕ) → i < length (k ∷ ks)
+        → get_or (k ∷ ks) i 0 < block_numbers o.sizes
     all ks each zero inside = low
     all ks each (suc m) inside = each m (omega (arith, inside))
 
@@ -67,15 +76,22 @@ below-after {o} {o'} {h} {h'} {d} {x} {y} p q e below =
     let W : ℕ → Type 0 = λ z. HeldBelow o h d z in
     subst P (sym p) (subst Q (sym q) (subst W (sym e) below))
 
-pub blocks-after : (o o' : Origin) (h h' : Held) (d x y : ℕ) → o' ≡ o → h' ≡ h → y ≡ x → blocks_below (block_numbers o'.sizes) h' d y ≡ blocks_below (block_numbers o.sizes) h d x
+pub blocks-after : (o o' : Origin) (h h' : Held) (d x y : ℕ) → o' ≡ o → h' ≡ h → y ≡ x
+    → blocks_below (block_numbers o'.sizes) h' d y ≡ blocks_below (block_numbers o.sizes) h d x
 blocks-after o o' h h' d x y p q e =
-    ap (λ z. blocks_below (block_numbers z.sizes) h' d y) p ∙ (ap (λ z. blocks_below (block_numbers o.sizes) z d y) q ∙ ap (blocks_below (block_numbers o.sizes) h d) e)
+    ap (λ z. blocks_below (block_numbers z.sizes) h' d y) p
+    ∙ (ap (λ z. blocks_below (block_numbers o.sizes) z d y) q ∙ ap (blocks_below (block_numbers o.sizes) h d) e)
 
-pub tree-below : {o : Origin} {h : Held} {a : List ℕ} → IsTree o h a → (slot d : ℕ) → slot < 13 → d ≤ slot - 9 → HeldBelow o h d (get_or a slot 0)
-tree-below tree slot d low high = record { at = λ ks deep each some. tree.whole slot ks (record { among = low; deep = omega (arith, deep, high); places = each }) some }
+pub tree-below : {o : Origin} {h : Held} {a : List ℕ} → IsTree o h a → (slot d : ℕ) → slot < 13 → d ≤ slot - 9
+    → HeldBelow o h d (get_or a slot 0)
+tree-below tree slot d low high =
+    record { at = λ ks deep each some. tree.whole slot ks (record { among = low; deep = omega (arith, deep, high); places = each }) some }
 
 -- the pages, and what is under the three indirect addresses, one after another
-pub joined : (g : Geometry) (h : Held) (a : List ℕ) {start pages one two all : List ℕ} → start ≡ [] → pages ≡ start ++ flat_map (λ slot. cond (get_or a slot 0 == 0) [] (get_or a slot 0 ∷ [])) (range_with_len 0 first_single) → one ≡ pages ++ blocks_below (block_numbers g) h 1 (get_or a 10 0) → two ≡ one ++ blocks_below (block_numbers g) h 2 (get_or a 11 0) → all ≡ two ++ blocks_below (block_numbers g) h 3 (get_or a 12 0) → all ≡ blocks_of g h a
+pub joined : (g : Geometry) (h : Held) (a : List ℕ) {start pages one two all : List ℕ} → start ≡ []
+    → pages ≡ start ++ flat_map (λ slot. cond (get_or a slot 0 == 0) [] (get_or a slot 0 ∷ [])) (range_with_len 0 first_single)
+    → one ≡ pages ++ blocks_below (block_numbers g) h 1 (get_or a 10 0) → two ≡ one ++ blocks_below (block_numbers g) h 2 (get_or a 11 0)
+    → all ≡ two ++ blocks_below (block_numbers g) h 3 (get_or a 12 0) → all ≡ blocks_of g h a
 unfolding Rattle.sv_form.specs.AddressTree.blocks_below
 joined g h a {start} {pages} {one} {two} {all} p q r s t =
     t
@@ -83,4 +99,5 @@ joined g h a {start} {pages} {one} {two} {all} p q r s t =
     (s
     ∙ ap (λ x. x ++ blocks_below (block_numbers g) h 2 (get_or a 11 0))
     (r
-    ∙ ap (λ x. x ++ blocks_below (block_numbers g) h 1 (get_or a 10 0)) (q ∙ ap (λ x. x ++ flat_map (λ slot. cond (get_or a slot 0 == 0) [] (get_or a slot 0 ∷ [])) (range_with_len 0 first_single)) p)))
+    ∙ ap (λ x. x ++ blocks_below (block_numbers g) h 1 (get_or a 10 0))
+    (q ∙ ap (λ x. x ++ flat_map (λ slot. cond (get_or a slot 0 == 0) [] (get_or a slot 0 ∷ [])) (range_with_len 0 first_single)) p)))

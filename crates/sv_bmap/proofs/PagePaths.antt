@@ -25,14 +25,16 @@ quotient_rest x n pos = grind arith
 rest_below : (x n : ℕ) → 0 < n → x % n < n
 rest_below x n pos = grind arith
 
-double_path : (g : Geometry) (page : ℕ) → 0 < block_numbers g → first_double (block_numbers g) ≤ page → page < first_triple (block_numbers g) → HasPath g page
+double_path : (g : Geometry) (page : ℕ) → 0 < block_numbers g → first_double (block_numbers g) ≤ page
+    → page < first_triple (block_numbers g) → HasPath g page
 double_path g page pos low high =
     let n : ℕ = block_numbers g in
     let x : ℕ = page - first_double n in
     let whole : x / n * n + x % n ≡ x = quotient_rest x n pos in
     (Double (x / n) (x % n), ((div_below x n n pos (omega arith), rest_below x n pos), omega arith))
 
-triple_path : (g : Geometry) (page : ℕ) → 0 < block_numbers g → first_triple (block_numbers g) ≤ page → page < page_limit (block_numbers g) → HasPath g page
+triple_path : (g : Geometry) (page : ℕ) → 0 < block_numbers g → first_triple (block_numbers g) ≤ page → page < page_limit (block_numbers g)
+    → HasPath g page
 triple_path g page pos low high =
     let n : ℕ = block_numbers g in
     let x : ℕ = page - first_triple n in
@@ -49,7 +51,8 @@ has_path g page pos limit =
     split_at page first_single (HasPath g page) (λ low. (Direct page, (low, refl)))
     (λ high. split_at page (first_double (block_numbers g)) (HasPath g page)
     (λ low. (Single (page - first_single), (omega arith, omega arith)))
-    (λ high. split_at page (first_triple (block_numbers g)) (HasPath g page) (λ low. double_path g page pos high low) (λ high. triple_path g page pos high limit)))
+    (λ high. split_at page (first_triple (block_numbers g)) (HasPath g page) (λ low. double_path g page pos high low)
+    (λ high. triple_path g page pos high limit)))
 
 -- a page that a file may have is within the reach of the tree
 pub page_reach : (g : Geometry) (page : ℕ) → 0 < g.block_size → IsPage g page → page < page_limit (block_numbers g)

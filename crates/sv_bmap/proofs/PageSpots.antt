@@ -33,7 +33,8 @@ path-deep g (Double i j) is = refl
 path-deep g (Triple i j k) is = refl
 
 -- two pages at one spot are one page
-pub same-page : (g : Geometry) (p q : PagePath) → IsPath g p → IsPath g q → slot_of p ≡ slot_of q → places_of p ≡ places_of q → page_of g p ≡ page_of g q
+pub same-page : (g : Geometry) (p q : PagePath) → IsPath g p → IsPath g q → slot_of p ≡ slot_of q → places_of p ≡ places_of q
+    → page_of g p ≡ page_of g q
 same-page g (Direct i) (Direct j) is also e f = e
 same-page g (Direct i) (Single j) is also e f = absurd (omega (arith, is, e))
 same-page g (Direct i) (Double j k) is also e f = absurd (omega (arith, is, e))
@@ -52,11 +53,18 @@ same-page g (Triple i j k) (Double l m) is also e f = absurd (omega (arith, e))
 same-page g (Triple i j k) (Triple l m o) is also e f = ap (λ q. page_of g (Triple (get_or q 0 0) (get_or q 1 0) (get_or q 2 0))) f
 
 -- the page of the row is its last block
-pub page-hung : {o : Origin} {h new : Held} {a b : List ℕ} {above parent place : ℕ} {xs : List ℕ} (p : PagePath) → IsPath o.sizes p → Hangs (block_numbers o.sizes) h new a b (slot_of p) (places_of p) above parent place xs → IsTree o h a → page_block o.sizes new b (page_of o.sizes p) ≡ get_or xs (length xs - 1) 0
-page-hung {o} {h} {new} {a} {b} p is hangs tree = page-block-is o.sizes o.sizes new b p (page_of o.sizes p) refl is refl ∙ hung-page hangs tree
+pub page-hung : {o : Origin} {h new : Held} {a b : List ℕ} {above parent place : ℕ} {xs : List ℕ} (p : PagePath) → IsPath o.sizes p
+    → Hangs (block_numbers o.sizes) h new a b (slot_of p) (places_of p) above parent place xs → IsTree o h a
+    → page_block o.sizes new b (page_of o.sizes p) ≡ get_or xs (length xs - 1) 0
+page-hung {o} {h} {new} {a} {b} p is hangs tree = page-block-is o.sizes o.sizes new b p (page_of o.sizes p) refl is refl
+    ∙ hung-page hangs tree
 
 -- every other page has the block that it had, or is the hole that it was
-pub other-hung : {o : Origin} {h new : Held} {a b : List ℕ} {above parent place : ℕ} {xs : List ℕ} (p q : PagePath) → IsPath o.sizes p → IsPath o.sizes q → page_of o.sizes q ≢ page_of o.sizes p → Hangs (block_numbers o.sizes) h new a b (slot_of p) (places_of p) above parent place xs → IsTree o h a → page_block o.sizes new b (page_of o.sizes q) ≡ page_block o.sizes h a (page_of o.sizes q)
+pub other-hung : {o : Origin} {h new : Held} {a b : List ℕ} {above parent place : ℕ} {xs : List ℕ} (p q : PagePath) → IsPath o.sizes p
+    → IsPath o.sizes q → page_of o.sizes q ≢ page_of o.sizes p
+    → Hangs (block_numbers o.sizes) h new a b (slot_of p) (places_of p) above parent place xs → IsTree o h a
+    → page_block o.sizes new b (page_of o.sizes q) ≡ page_block o.sizes h a (page_of o.sizes q)
 other-hung {o} {h} {new} {a} {b} p q is also other hangs tree =
     page-block-is o.sizes o.sizes new b q (page_of o.sizes q) refl also refl
-    ∙ (hung-other hangs tree (slot_of q) (places_of q) (path-spot o.sizes q also) (path-deep o.sizes q also) (λ e f. other (same-page o.sizes q p also is e f)) ∙ sym (page-block-is o.sizes o.sizes h a q (page_of o.sizes q) refl also refl))
+    ∙ (hung-other hangs tree (slot_of q) (places_of q) (path-spot o.sizes q also) (path-deep o.sizes q also)
+    (λ e f. other (same-page o.sizes q p also is e f)) ∙ sym (page-block-is o.sizes o.sizes h a q (page_of o.sizes q) refl also refl))

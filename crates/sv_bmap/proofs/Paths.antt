@@ -1,5 +1,6 @@
 -- Pages and paths, and numbers in lines.
-use Rattle.std.proofs.Common.{◌≡◌, ◌≢◌, ◌+◌, ◌*◌, ◌/◌, ◌%◌, ◌<◌, ◌≤◌, ◌-◌, ◌==◌, ℕ, zero, suc, List, [], ◌∷◌, length, Bool, true, false, cond, nat_lt, arith, ap, refl, sym, subst, ◌∙◌, get_or, Option, Some, None, IsSome, IfSome, unwrap_or}
+use Rattle.std.proofs.Common.{◌≡◌, ◌≢◌, ◌+◌, ◌*◌, ◌/◌, ◌%◌, ◌<◌, ◌≤◌, ◌-◌, ◌==◌, ℕ, zero, suc, List, [], ◌∷◌, length, Bool, true, false}
+use Rattle.std.proofs.Common.{cond, nat_lt, arith, ap, refl, sym, subst, ◌∙◌, get_or, Option, Some, None, IsSome, IfSome, unwrap_or}
 use Rattle.std.proofs.lemmas.Bool.{false≢true}
 use Rattle.std.proofs.lemmas.Bool.Decides.{nat_tests}
 use Rattle.std.proofs.lemmas.Nat.{div-mul-add, mod-mul-add}
@@ -24,7 +25,11 @@ pair_bound : (n i j : ℕ) → i < n → j < n → i * n + j < n * n
 pair_bound n i j low high = grind arith
 
 -- the three tests of a page
-chosen : (s t u : Bool) (page n : ℕ) → nat_lt page first_single ≡ s → nat_lt page (first_double n) ≡ t → nat_lt page (first_triple n) ≡ u → path n page ≡ cond s (Direct page) (cond t (Single (page - first_single)) (cond u (Double ((page - first_double n) / n) ((page - first_double n) % n)) (Triple ((page - first_triple n) / n / n) ((page - first_triple n) / n % n) ((page - first_triple n) % n))))
+chosen : (s t u : Bool) (page n : ℕ) → nat_lt page first_single ≡ s → nat_lt page (first_double n) ≡ t → nat_lt page (first_triple n) ≡ u
+    → path n page ≡ cond s (Direct page)
+    (cond t (Single (page - first_single))
+    (cond u (Double ((page - first_double n) / n) ((page - first_double n) % n))
+    (Triple ((page - first_triple n) / n / n) ((page - first_triple n) / n % n) ((page - first_triple n) % n))))
 unfolding path
 chosen s t u page n e f h = rest e
   where
@@ -34,9 +39,13 @@ chosen s t u page n e f h = rest e
     T : PagePath
     T = Triple ((page - first_triple n) / n / n) ((page - first_triple n) / n % n) ((page - first_triple n) % n)
 
-    rest : nat_lt page first_single ≡ s → cond (nat_lt page first_single) (Direct page) (cond (nat_lt page (first_double n)) (Single (page - first_single)) (cond (nat_lt page (first_triple n)) D T)) ≡ cond s (Direct page) (cond t (Single (page - first_single)) (cond u D T))
+    rest : nat_lt page first_single ≡ s
+        → cond (nat_lt page first_single) (Direct page)
+        (cond (nat_lt page (first_double n)) (Single (page - first_single)) (cond (nat_lt page (first_triple n)) D T)) ≡ cond s
+        (Direct page) (cond t (Single (page - first_single)) (cond u D T))
     rest e =
-        ap (λ q. cond q (Direct page) (cond (nat_lt page (first_double n)) (Single (page - first_single)) (cond (nat_lt page (first_triple n)) D T))) e
+        ap (λ q. cond q (Direct page)
+        (cond (nat_lt page (first_double n)) (Single (page - first_single)) (cond (nat_lt page (first_triple n)) D T))) e
         ∙ (ap (λ q. cond s (Direct page) (cond q (Single (page - first_single)) (cond (nat_lt page (first_triple n)) D T))) f
         ∙ ap (λ q. cond s (Direct page) (cond t (Single (page - first_single)) (cond q D T))) h)
 
@@ -48,16 +57,20 @@ three h i j k l m p q r = ap (λ (x : ℕ). Triple x i j) p ∙ (ap (λ (x : ℕ
 
 -- the path that arrives at a page is the path of the page
 path-at : (g : Geometry) (p : PagePath) → IsPath g p → path (block_numbers g) (page_of g p) ≡ p
-path-at g (Direct i) is = chosen true (nat_lt i (first_double (block_numbers g))) (nat_lt i (first_triple (block_numbers g))) i (block_numbers g) (yes i first_single is) refl refl
+path-at g (Direct i) is = chosen true (nat_lt i (first_double (block_numbers g))) (nat_lt i (first_triple (block_numbers g))) i
+    (block_numbers g) (yes i first_single is) refl refl
 path-at g (Single i) is =
-    chosen false true (nat_lt (first_single + i) (first_triple (block_numbers g))) (first_single + i) (block_numbers g) (no (first_single + i) first_single (omega arith)) (yes (first_single + i) (first_double (block_numbers g)) (omega (arith, is))) refl
+    chosen false true (nat_lt (first_single + i) (first_triple (block_numbers g))) (first_single + i) (block_numbers g)
+    (no (first_single + i) first_single (omega arith)) (yes (first_single + i) (first_double (block_numbers g)) (omega (arith, is)))
+    refl
     ∙ (let e : first_single + i - first_single ≡ i = omega arith in ap (λ (x : ℕ). Single x) e)
 path-at g (Double i j) is =
     let n : ℕ = block_numbers g in
     let x : ℕ = i * n + j in
     let below : x < n * n = pair_bound n i j is.0 is.1 in
     let e : first_double n + x - first_double n ≡ x = omega arith in
-    chosen false false true (first_double n + x) n (no (first_double n + x) first_single (omega arith)) (no (first_double n + x) (first_double n) (omega arith)) (yes (first_double n + x) (first_triple n) (omega (arith, below)))
+    chosen false false true (first_double n + x) n (no (first_double n + x) first_single (omega arith))
+    (no (first_double n + x) (first_double n) (omega arith)) (yes (first_double n + x) (first_triple n) (omega (arith, below)))
     ∙ two _ _ i j (ap (λ (q : ℕ). q / n) e ∙ div-mul-add i n j is.1) (ap (λ (q : ℕ). q % n) e ∙ mod-mul-add i n j is.1)
 path-at g (Triple i j k) is =
     let n : ℕ = block_numbers g in
@@ -65,8 +78,11 @@ path-at g (Triple i j k) is =
     let x : ℕ = row * n + k in
     let e : first_triple n + x - first_triple n ≡ x = omega arith in
     let up : x / n ≡ row = div-mul-add row n k is.2 in
-    chosen false false false (first_triple n + x) n (no (first_triple n + x) first_single (omega arith)) (no (first_triple n + x) (first_double n) (omega arith)) (no (first_triple n + x) (first_triple n) (omega arith))
-    ∙ three _ _ _ i j k (ap (λ (q : ℕ). q / n / n) e ∙ (ap (λ (q : ℕ). q / n) up ∙ div-mul-add i n j is.1)) (ap (λ (q : ℕ). q / n % n) e ∙ (ap (λ (q : ℕ). q % n) up ∙ mod-mul-add i n j is.1)) (ap (λ (q : ℕ). q % n) e ∙ mod-mul-add row n k is.2)
+    chosen false false false (first_triple n + x) n (no (first_triple n + x) first_single (omega arith))
+    (no (first_triple n + x) (first_double n) (omega arith)) (no (first_triple n + x) (first_triple n) (omega arith))
+    ∙ three _ _ _ i j k (ap (λ (q : ℕ). q / n / n) e ∙ (ap (λ (q : ℕ). q / n) up ∙ div-mul-add i n j is.1))
+    (ap (λ (q : ℕ). q / n % n) e ∙ (ap (λ (q : ℕ). q % n) up ∙ mod-mul-add i n j is.1))
+    (ap (λ (q : ℕ). q % n) e ∙ mod-mul-add row n k is.2)
 
 pub path-is : (g : Geometry) (p : PagePath) (page : ℕ) → IsPath g p → page_of g p ≡ page → path (block_numbers g) page ≡ p
 path-is g p page is e = sym (ap (path (block_numbers g)) e) ∙ path-at g p is
@@ -74,7 +90,9 @@ path-is g p page is e = sym (ap (path (block_numbers g)) e) ∙ path-at g p is
 -- a number of a block is a number of its line
 pub number-line : (bytes : List ℕ) (k : ℕ) → number32 (line_of bytes (k / 16)) (k % 16 * 4) ≡ number32 bytes (k * 4)
 number-line bytes k =
-    four _ _ _ _ _ _ _ _ (byte (k % 16 * 4) (k * 4) (omega arith) (omega arith)) (byte (k % 16 * 4 + 1) (k * 4 + 1) (omega arith) (omega arith)) (byte (k % 16 * 4 + 2) (k * 4 + 2) (omega arith) (omega arith)) (byte (k % 16 * 4 + 2 + 1) (k * 4 + 2 + 1) (omega arith) (omega arith))
+    four _ _ _ _ _ _ _ _ (byte (k % 16 * 4) (k * 4) (omega arith) (omega arith))
+    (byte (k % 16 * 4 + 1) (k * 4 + 1) (omega arith) (omega arith)) (byte (k % 16 * 4 + 2) (k * 4 + 2) (omega arith) (omega arith))
+    (byte (k % 16 * 4 + 2 + 1) (k * 4 + 2 + 1) (omega arith) (omega arith))
   where
     byte : (m p : ℕ) → m < 64 → k / 16 * 64 + m ≡ p → get_or (line_of bytes (k / 16)) m 0 ≡ get_or bytes p 0
     byte m p low e = get_or-line_of bytes (k / 16) m low ∙ ap (λ q. get_or bytes q 0) e
@@ -82,7 +100,8 @@ number-line bytes k =
     four : (a b c d e f g h : ℕ) → a ≡ e → b ≡ f → c ≡ g → d ≡ h → a + 256 * b + 65536 * (c + 256 * d) ≡ e + 256 * f + 65536 * (g + 256 * h)
     four a b c d e f g h p q r s = cc
 
-pub number-got : {o : Origin} {h : Held} {b : ℕ} {buf : Loan} → Gets o h b buf → (k : ℕ) → IsSome (h b (k / 16)) → number32 buf.bytes (k * 4) ≡ number_in h b k
+pub number-got : {o : Origin} {h : Held} {b : ℕ} {buf : Loan} → Gets o h b buf → (k : ℕ) → IsSome (h b (k / 16))
+    → number32 buf.bytes (k * 4) ≡ number_in h b k
 unfolding number_in
 number-got {o} {h} {b} {buf} gets k is =
     sym (number-line buf.bytes k) ∙ ap (λ q. number32 q (k % 16 * 4)) (line (h b (k / 16)) is (gets.lines (k / 16)))
@@ -112,7 +131,8 @@ pub index-in : (g g' : Geometry) (i j : ℕ) → g ≡ g' → i < block_numbers 
 index-in g g' i j e low same = let P : Geometry → Type 0 = λ q. j < block_numbers q in subst P e (omega (arith, low, same))
 
 -- the block of a page is where its path leads
-pub page-block-is : (g g' : Geometry) (h : Held) (a : List ℕ) (p : PagePath) (page : ℕ) → g' ≡ g → IsPath g' p → page_of g' p ≡ page → page_block g h a page ≡ block_at h a (slot_of p) (places_of p)
+pub page-block-is : (g g' : Geometry) (h : Held) (a : List ℕ) (p : PagePath) (page : ℕ) → g' ≡ g → IsPath g' p → page_of g' p ≡ page
+    → page_block g h a page ≡ block_at h a (slot_of p) (places_of p)
 unfolding Rattle.sv_form.specs.AddressTree.page_block
 page-block-is g g' h a p page e is at =
     ap (λ q. block_at h a (slot_of (path (block_numbers q) page)) (places_of (path (block_numbers q) page))) (sym e)
@@ -138,14 +158,18 @@ two-spot n slot i j low high first second = record { among = low; deep = omega a
     each (suc zero) below = second
     each (suc (suc m)) below = absurd (omega arith)
 
-pub top-held : {o : Origin} {h : Held} {a : List ℕ} → IsTree o h a → (slot : ℕ) → slot < 13 → get_or a slot 0 ≢ 0 → HoldsBlock o h (get_or a slot 0)
+pub top-held : {o : Origin} {h : Held} {a : List ℕ} → IsTree o h a → (slot : ℕ) → slot < 13 → get_or a slot 0 ≢ 0
+    → HoldsBlock o h (get_or a slot 0)
 top-held {o} tree slot low some = tree.whole slot [] (top-spot (block_numbers o.sizes) slot low) some
 
-pub one-held : {o : Origin} {h : Held} {a : List ℕ} → IsTree o h a → (slot i : ℕ) → slot < 13 → 10 ≤ slot → i < block_numbers o.sizes → child h (get_or a slot 0) i ≢ 0 → HoldsBlock o h (child h (get_or a slot 0) i)
+pub one-held : {o : Origin} {h : Held} {a : List ℕ} → IsTree o h a → (slot i : ℕ) → slot < 13 → 10 ≤ slot → i < block_numbers o.sizes
+    → child h (get_or a slot 0) i ≢ 0 → HoldsBlock o h (child h (get_or a slot 0) i)
 one-held {o} tree slot i low high first some = tree.whole slot (i ∷ []) (one-spot (block_numbers o.sizes) slot i low high first) some
 
-pub two-held : {o : Origin} {h : Held} {a : List ℕ} → IsTree o h a → (slot i j : ℕ) → slot < 13 → 11 ≤ slot → i < block_numbers o.sizes → j < block_numbers o.sizes → child h (child h (get_or a slot 0) i) j ≢ 0 → HoldsBlock o h (child h (child h (get_or a slot 0) i) j)
-two-held {o} tree slot i j low high first second some = tree.whole slot (i ∷ j ∷ []) (two-spot (block_numbers o.sizes) slot i j low high first second) some
+pub two-held : {o : Origin} {h : Held} {a : List ℕ} → IsTree o h a → (slot i j : ℕ) → slot < 13 → 11 ≤ slot → i < block_numbers o.sizes
+    → j < block_numbers o.sizes → child h (child h (get_or a slot 0) i) j ≢ 0 → HoldsBlock o h (child h (child h (get_or a slot 0) i) j)
+two-held {o} tree slot i j low high first second some = tree.whole slot (i ∷ j ∷ [])
+    (two-spot (block_numbers o.sizes) slot i j low high first second) some
 
 -- what was held before a read of the tree is held after it
 pub held-after : {o o' : Origin} {h h' : Held} {x y : ℕ} → o' ≡ o → h' ≡ h → y ≡ x → (x ≢ 0 → HoldsBlock o h x) → y ≢ 0 → HoldsBlock o' h' y
@@ -162,6 +186,8 @@ one-along h b p = ap (child h b) p
 pub two-along : (h : Held) (b : ℕ) {i i' j j' : ℕ} → i ≡ i' → j ≡ j' → child h (child h b i) j ≡ child h (child h b i') j'
 two-along h b {i} {i'} {j} {j'} p q = ap (λ x. child h (child h b x) j) p ∙ ap (child h (child h b i')) q
 
-pub three-along : (h : Held) (b : ℕ) {i i' j j' k k' : ℕ} → i ≡ i' → j ≡ j' → k ≡ k' → child h (child h (child h b i) j) k ≡ child h (child h (child h b i') j') k'
+pub three-along : (h : Held) (b : ℕ) {i i' j j' k k' : ℕ} → i ≡ i' → j ≡ j' → k ≡ k'
+    → child h (child h (child h b i) j) k ≡ child h (child h (child h b i') j') k'
 three-along h b {i} {i'} {j} {j'} {k} {k'} p q r =
-    ap (λ x. child h (child h (child h b x) j) k) p ∙ (ap (λ x. child h (child h (child h b i') x) k) q ∙ ap (child h (child h (child h b i') j')) r)
+    ap (λ x. child h (child h (child h b x) j) k) p
+    ∙ (ap (λ x. child h (child h (child h b i') x) k) q ∙ ap (child h (child h (child h b i') j')) r)

@@ -16,10 +16,12 @@ pub record Hangs (n : ℕ) (h new : Held) (a b : List ℕ) (slot : ℕ) (places 
   pub holes : (i : ℕ) → i < length xs → block_at h a slot (take (above + i) places) ≡ 0
   -- the link
   pub at_top : above ≡ 0 → (parent ≡ 0) × (slice_index b slot ≡ slice_index xs 0)
-  pub at_number : (m : ℕ) → above ≡ suc m → (parent ≡ block_at h a slot (take m places)) × ((place ≡ slice_index places m) × ((parent ≢ 0) × (child new parent place ≡ slice_index xs 0)))
+  pub at_number : (m : ℕ) → above ≡ suc m → (parent ≡ block_at h a slot (take m places))
+      × ((place ≡ slice_index places m) × ((parent ≢ 0) × (child new parent place ≡ slice_index xs 0)))
   -- each block of the row leads to the next one, and nowhere else
   pub row : (i : ℕ) → suc i < length xs → child new (slice_index xs i) (slice_index places (above + i)) ≡ slice_index xs (suc i)
   pub empty : (i k : ℕ) → suc i < length xs → k < n → k ≢ slice_index places (above + i) → child new (slice_index xs i) k ≡ 0
   -- all else stays
   pub tops : (t : ℕ) → (t ≡ slot → above ≢ 0) → slice_index b t ≡ slice_index a t
-  pub old : (t : ℕ) (ks : List ℕ) (k : ℕ) → IsSpot n t ks → block_at h a t ks ≢ 0 → k < n → (block_at h a t ks ≡ parent → k ≢ place) → child new (block_at h a t ks) k ≡ child h (block_at h a t ks) k
+  pub old : (t : ℕ) (ks : List ℕ) (k : ℕ) → IsSpot n t ks → block_at h a t ks ≢ 0 → k < n → (block_at h a t ks ≡ parent → k ≢ place)
+      → child new (block_at h a t ks) k ≡ child h (block_at h a t ks) k

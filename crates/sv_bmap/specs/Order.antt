@@ -16,4 +16,5 @@ blocks_of g h a = tree.blocks_of (block_numbers g) (number_in h) (slice_index a)
 
 -- the block and all blocks under it are held
 pub record HeldBelow (o : Origin) (h : Held) (d b : ℕ) : Type 0 where
-  pub at : (ks : List ℕ) → length ks ≤ d → ((i : ℕ) → i < length ks → slice_index ks i < block_numbers o.sizes) → down h b ks ≢ 0 → HoldsBlock o h (down h b ks)
+  pub at : (ks : List ℕ) → length ks ≤ d → ((i : ℕ) → i < length ks → slice_index ks i < block_numbers o.sizes) → down h b ks ≢ 0
+      → HoldsBlock o h (down h b ks)

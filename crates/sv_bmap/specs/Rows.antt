@@ -10,13 +10,16 @@ pub record IsRow (o : Origin) (n : ℕ) (places : List ℕ) (above : ℕ) (xs : 
   pub count : length parts ≡ length xs
   pub named : (i : ℕ) → i < length xs → slice_index xs i ≢ 0
   pub holds : (i : ℕ) → i < length xs → HoldsBlock o (part parts i) (slice_index xs i)
-  pub next : (i : ℕ) → suc i < length xs → number_in (part parts i) (slice_index xs i) (slice_index places (above + i)) ≡ slice_index xs (suc i)
+  pub next : (i : ℕ) → suc i < length xs → number_in (part parts i) (slice_index xs i) (slice_index places (above + i))
+      ≡ slice_index xs (suc i)
   pub empty : (i k : ℕ) → suc i < length xs → k < n → k ≢ slice_index places (above + i) → number_in (part parts i) (slice_index xs i) k ≡ 0
 
 -- from one block on, each block of the row but the last has one number, which is the next block
 pub record LeadsFrom (from n : ℕ) (places : List ℕ) (above : ℕ) (xs : List ℕ) (parts : List Held) : Type 0 where
-  pub next : (i : ℕ) → from ≤ i → suc i < length xs → number_in (part parts i) (slice_index xs i) (slice_index places (above + i)) ≡ slice_index xs (suc i)
-  pub empty : (i k : ℕ) → from ≤ i → suc i < length xs → k < n → k ≢ slice_index places (above + i) → number_in (part parts i) (slice_index xs i) k ≡ 0
+  pub next : (i : ℕ) → from ≤ i → suc i < length xs → number_in (part parts i) (slice_index xs i) (slice_index places (above + i))
+      ≡ slice_index xs (suc i)
+  pub empty : (i k : ℕ) → from ≤ i → suc i < length xs → k < n → k ≢ slice_index places (above + i)
+      → number_in (part parts i) (slice_index xs i) k ≡ 0
 
 -- part i has these bytes for its block
 pub record HasBytes (o : Origin) (parts : List Held) (i b : ℕ) (bytes : List ℕ) : Type 0 where

@@ -1,6 +1,7 @@
 -- The address tree of an inode, read out of the held lines (Bach, chapter 4.2): thirteen addresses, and the numbers in the
 -- indirect blocks below the last three of them. A number that is 0 is a hole.
-use Rattle.std.specs.Prelude.{◌≡◌, ◌≢◌, ◌<◌, ◌≤◌, ◌-◌, ◌*◌, ◌/◌, ◌%◌, ◌==◌, ℕ, List, [], ◌∷◌, length, Option, Some, None, slice_index, unwrap_or, nat_lt, if◌then◌else◌}
+use Rattle.std.specs.Prelude.{◌≡◌, ◌≢◌, ◌<◌, ◌≤◌, ◌-◌, ◌*◌, ◌/◌, ◌%◌, ◌==◌, ℕ, List, [], ◌∷◌, length, Option, Some, None, slice_index}
+use Rattle.std.specs.Prelude.{unwrap_or, nat_lt, if◌then◌else◌}
 use Rattle.sv_form.specs.Number.{number32}
 use Rattle.sv_form.specs.AddressTree as tree
 use Rattle.sv_form.specs.PagePath.{block_numbers}
@@ -27,8 +28,11 @@ block_at h a slot ks = tree.block_at (number_in h) (slice_index a) slot ks
 
 -- all blocks of the tree are held, and each stands in it once
 pub record IsTree (o : Origin) (h : Held) (a : List ℕ) : Type 0 where
-  pub whole : (slot : ℕ) (ks : List ℕ) → IsSpot (block_numbers o.sizes) slot ks → block_at h a slot ks ≢ 0 → HoldsBlock o h (block_at h a slot ks)
-  pub once : (slot : ℕ) (ks : List ℕ) (other : ℕ) (js : List ℕ) → IsSpot (block_numbers o.sizes) slot ks → IsSpot (block_numbers o.sizes) other js → block_at h a slot ks ≢ 0 → block_at h a slot ks ≡ block_at h a other js → (slot ≡ other) × (ks ≡ js)
+  pub whole : (slot : ℕ) (ks : List ℕ) → IsSpot (block_numbers o.sizes) slot ks → block_at h a slot ks ≢ 0
+      → HoldsBlock o h (block_at h a slot ks)
+  pub once : (slot : ℕ) (ks : List ℕ) (other : ℕ) (js : List ℕ) → IsSpot (block_numbers o.sizes) slot ks
+      → IsSpot (block_numbers o.sizes) other js → block_at h a slot ks ≢ 0 → block_at h a slot ks ≡ block_at h a other js → (slot ≡ other)
+      × (ks ≡ js)
 
 -- the block of a page, 0 for a hole
 abbrev pub page_block : Geometry → Held → List ℕ → ℕ → ℕ

@@ -1,5 +1,6 @@
 // One page more: writes of new blocks and of the number that links them.
-ghost use Rattle.std.specs.Prelude.{◌≡◌, ◌≢◌, ◌≤◌, ◌<◌, ◌+◌, ◌-◌, ◌||◌, ℕ, IfOk, IfErr, OnOk, OnErr, length, map, replicate, slice_index, take};
+ghost use Rattle.std.specs.Prelude.{◌≡◌, ◌≢◌, ◌≤◌, ◌<◌, ◌+◌, ◌-◌, ◌||◌, ℕ, IfOk, IfErr, OnOk, OnErr, length, map, replicate, slice_index};
+ghost use Rattle.std.specs.Prelude.{take};
 ghost use Rattle.std.specs.List.{All, list_any, sum_by};
 ghost use Rattle.sv_dev.specs.Causes.{counted};
 ghost use Rattle.sv_form.specs.PagePath.{IsPage, block_numbers};
@@ -38,14 +39,16 @@ pub fn attach<R: Wait, S: Stake>(
     requires lent { S.lent s.old ≡ nothing_lent }
     requires away { All (λ part. S.lent part ≡ nothing_lent) parts.items }
     requires home { All (λ part. S.origin part ≡ S.origin s.old) parts.items }
-    ensures ok { OnOk result (Attaches (S.origin s.old) (S.held s.old) (S.held s.new) a.old a.new page blocks.now (map S.held parts.items) bytes.now) }
+    ensures ok { OnOk result (Attaches (S.origin s.old) (S.held s.old) (S.held s.new) a.old a.new page blocks.now
+        (map S.held parts.items) bytes.now) }
     ensures counts { OnOk result (counted (S.faults s.old) (sum_by S.faults parts.items) ≤ S.faults s.new) }
     ensures forced { OnOk result (S.forced s.new ≡ (S.forced s.old || list_any S.forced parts.items)) }
     ensures held { OnErr result (S.held s.new ≡ S.held s.old) }
     ensures addresses { OnErr result (a.new ≡ a.old) }
     ensures unforced { OnErr result (S.forced s.new ≡ S.forced s.old) }
     ensures back { IfErr result (λ e. Keeps S.held S.lent S.origin S.forced S.faults parts.items e.1.items) }
-    ensures cause { IfErr result (λ e. HasFaultOf (S.faults s.old) (S.faults s.new) (map S.faults parts.items) (map S.faults e.1.items) e.0) }
+    ensures cause { IfErr result (λ e. HasFaultOf (S.faults s.old) (S.faults s.new) (map S.faults parts.items)
+        (map S.faults e.1.items) e.0) }
     ensures faults { S.faults s.old ≤ S.faults s.new }
     ensures lends { S.lent s.new ≡ nothing_lent }
     ensures origin { S.origin s.new ≡ S.origin s.old }
@@ -114,11 +117,13 @@ fn build<R: Wait, S: Stake>(
     requires lent { S.lent s.old ≡ nothing_lent }
     requires away { All (λ part. S.lent part ≡ nothing_lent) parts.old.items }
     requires home { All (λ part. S.origin part ≡ S.origin s.old) parts.old.items }
-    ensures ok { OnOk result (IsBuilt (S.origin s.old) (S.held s.old) (S.held s.new) a.old a.new page blocks.now (map S.held parts.new.items) bytes.now) }
+    ensures ok { OnOk result (IsBuilt (S.origin s.old) (S.held s.old) (S.held s.new) a.old a.new page blocks.now
+        (map S.held parts.new.items) bytes.now) }
     ensures held { OnErr result (S.held s.new ≡ S.held s.old) }
     ensures addresses { OnErr result (a.new ≡ a.old) }
     ensures parts { Keeps S.held S.lent S.origin S.forced S.faults parts.old.items parts.new.items }
-    ensures cause { IfErr result (λ refusal. HasFaultOf (S.faults s.old) (S.faults s.new) (map S.faults parts.old.items) (map S.faults parts.new.items) refusal) }
+    ensures cause { IfErr result (λ refusal. HasFaultOf (S.faults s.old) (S.faults s.new) (map S.faults parts.old.items)
+        (map S.faults parts.new.items) refusal) }
     ensures faults { S.faults s.old ≤ S.faults s.new }
     ensures lends { S.lent s.new ≡ nothing_lent }
     ensures forced { S.forced s.new ≡ S.forced s.old }
@@ -154,7 +159,8 @@ fn hang<R: Wait, S: Stake>(
 ) -> Result<(), Refusal>
     requires slot { slot < 13 }
     requires places { (i : ℕ) → i < length way.now → slice_index way.now i < block_numbers (S.origin s.old).sizes }
-    requires blocks { (m : ℕ) → m < length way.now → HoldsBlock (S.origin s.old) (S.held s.old) (block_at (S.held s.old) a.old slot (take m way.now)) }
+    requires blocks { (m : ℕ) → m < length way.now
+        → HoldsBlock (S.origin s.old) (S.held s.old) (block_at (S.held s.old) a.old slot (take m way.now)) }
     requires lent { S.lent s.old ≡ nothing_lent }
     ensures ok { OnOk result (Links (block_numbers (S.origin s.old).sizes) (S.held s.old) (S.held s.new) a.old a.new slot way.now first) }
     ensures held { OnErr result (S.held s.new ≡ S.held s.old) }
@@ -181,7 +187,8 @@ fn block_below<R: Wait, S: Stake>(
     places: &[usize],
 ) -> Result<u32, Refusal>
     requires places { (i : ℕ) → i < length places.now → slice_index places.now i < block_numbers (S.origin s.old).sizes }
-    requires blocks { (m : ℕ) → m < length places.now → HoldsBlock (S.origin s.old) (S.held s.old) (down (S.held s.old) top (take m places.now)) }
+    requires blocks { (m : ℕ) → m < length places.now
+        → HoldsBlock (S.origin s.old) (S.held s.old) (down (S.held s.old) top (take m places.now)) }
     requires lent { S.lent s.old ≡ nothing_lent }
     ensures block { IfOk result (λ block. block ≡ down (S.held s.old) top places.now) }
     ensures held { S.held s.new ≡ S.held s.old }

@@ -27,7 +27,8 @@ fn cut(alloc: Global, stake: &mut OwnStake) -> Result<Vec<OwnStake>, Refusal>
     requires lent { ⟦<OwnStake as Stake>⟧.lent stake.old ≡ nothing_lent }
     ensures cut { IfOk result (λ parts. IsCut 4 (⟦<OwnStake as Stake>⟧.held stake.new) (map ⟦<OwnStake as Stake>⟧.held parts.items)) }
     ensures away { IfOk result (λ parts. All (λ part. ⟦<OwnStake as Stake>⟧.lent part ≡ nothing_lent) parts.items) }
-    ensures home { IfOk result (λ parts. All (λ part. ⟦<OwnStake as Stake>⟧.origin part ≡ ⟦<OwnStake as Stake>⟧.origin stake.old) parts.items) }
+    ensures home { IfOk result (λ parts. All (λ part. ⟦<OwnStake as Stake>⟧.origin part ≡ ⟦<OwnStake as Stake>⟧.origin stake.old)
+        parts.items) }
     ensures lends { ⟦<OwnStake as Stake>⟧.lent stake.new ≡ nothing_lent }
     ensures origin { ⟦<OwnStake as Stake>⟧.origin stake.new ≡ ⟦<OwnStake as Stake>⟧.origin stake.old }
 {
@@ -55,9 +56,11 @@ struct Grown {
 
 // Attaches a page, while the call with this number fails in the stake and in each part.
 fn grow_file<R: Wait>(rt: &R, alloc: Global, failing: u64) -> Result<Grown, Refusal>
-    ensures tree { IfOk result (λ file. IsTree (⟦<OwnStake as Stake>⟧.origin file.stake) (⟦<OwnStake as Stake>⟧.held file.stake) file.addresses) }
+    ensures tree { IfOk result (λ file. IsTree (⟦<OwnStake as Stake>⟧.origin file.stake)
+        (⟦<OwnStake as Stake>⟧.held file.stake) file.addresses) }
     ensures lent { IfOk result (λ file. ⟦<OwnStake as Stake>⟧.lent file.stake ≡ nothing_lent) }
-    ensures sizes { IfOk result (λ file. ⟦<OwnStake as Stake>⟧.origin file.stake ≡ record { id = failing ∷ []; sizes = record { block_size = 1024; blocks = 200; first_data = 3 } }) }
+    ensures sizes { IfOk result (λ file. ⟦<OwnStake as Stake>⟧.origin file.stake
+        ≡ record { id = failing ∷ []; sizes = record { block_size = 1024; blocks = 200; first_data = 3 } }) }
 {
     let fails = vec![in alloc; failing; 1]?;
     let mut stake = zero_stake(alloc, fails)?;

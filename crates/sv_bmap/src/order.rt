@@ -58,7 +58,8 @@ fn add(b: u32, blocks: &mut Vec<u32>) -> Result<(), NoMemory>
 
 // Adds the pages of the direct addresses.
 fn add_pages(a: &Addresses, blocks: &mut Vec<u32>) -> Result<(), NoMemory>
-    ensures { OnOk result (blocks.new.items ≡ blocks.old.items ++ flat_map (λ slot. if slice_index a.now slot == 0 then [] else slice_index a.now slot ∷ []) (range_with_len 0 first_single)) }
+    ensures { OnOk result (blocks.new.items ≡ blocks.old.items
+        ++ flat_map (λ slot. if slice_index a.now slot == 0 then [] else slice_index a.now slot ∷ []) (range_with_len 0 first_single)) }
 {
     for slot in 0..10usize {
         add_page(a[slot], blocks)?;
@@ -75,7 +76,8 @@ fn add_single<R: Wait, S: Stake>(
 ) -> Result<(), Refusal>
     requires below { HeldBelow (S.origin s.old) (S.held s.old) 1 b }
     requires lent { S.lent s.old ≡ nothing_lent }
-    ensures blocks { OnOk result (blocks.new.items ≡ blocks.old.items ++ blocks_below (block_numbers (S.origin s.old).sizes) (S.held s.old) 1 b) }
+    ensures blocks { OnOk result (blocks.new.items ≡ blocks.old.items
+        ++ blocks_below (block_numbers (S.origin s.old).sizes) (S.held s.old) 1 b) }
     ensures held { S.held s.new ≡ S.held s.old }
     ensures lends { S.lent s.new ≡ nothing_lent }
     ensures forced { S.forced s.new ≡ S.forced s.old }
@@ -103,7 +105,8 @@ fn add_double<R: Wait, S: Stake>(
 ) -> Result<(), Refusal>
     requires below { HeldBelow (S.origin s.old) (S.held s.old) 2 b }
     requires lent { S.lent s.old ≡ nothing_lent }
-    ensures blocks { OnOk result (blocks.new.items ≡ blocks.old.items ++ blocks_below (block_numbers (S.origin s.old).sizes) (S.held s.old) 2 b) }
+    ensures blocks { OnOk result (blocks.new.items ≡ blocks.old.items
+        ++ blocks_below (block_numbers (S.origin s.old).sizes) (S.held s.old) 2 b) }
     ensures held { S.held s.new ≡ S.held s.old }
     ensures lends { S.lent s.new ≡ nothing_lent }
     ensures forced { S.forced s.new ≡ S.forced s.old }
@@ -131,7 +134,8 @@ fn add_triple<R: Wait, S: Stake>(
 ) -> Result<(), Refusal>
     requires below { HeldBelow (S.origin s.old) (S.held s.old) 3 b }
     requires lent { S.lent s.old ≡ nothing_lent }
-    ensures blocks { OnOk result (blocks.new.items ≡ blocks.old.items ++ blocks_below (block_numbers (S.origin s.old).sizes) (S.held s.old) 3 b) }
+    ensures blocks { OnOk result (blocks.new.items ≡ blocks.old.items
+        ++ blocks_below (block_numbers (S.origin s.old).sizes) (S.held s.old) 3 b) }
     ensures held { S.held s.new ≡ S.held s.old }
     ensures lends { S.lent s.new ≡ nothing_lent }
     ensures forced { S.forced s.new ≡ S.forced s.old }

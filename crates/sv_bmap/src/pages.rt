@@ -132,7 +132,8 @@ fn three_below<R: Wait, S: Stake>(
 ) -> Result<(u32, u32, u32), Refusal>
     requires top { b ≢ 0 → HoldsBlock (S.origin s.old) (S.held s.old) b }
     requires middle { child (S.held s.old) b i ≢ 0 → HoldsBlock (S.origin s.old) (S.held s.old) (child (S.held s.old) b i) }
-    requires below { child (S.held s.old) (child (S.held s.old) b i) j ≢ 0 → HoldsBlock (S.origin s.old) (S.held s.old) (child (S.held s.old) (child (S.held s.old) b i) j) }
+    requires below { child (S.held s.old) (child (S.held s.old) b i) j ≢ 0
+        → HoldsBlock (S.origin s.old) (S.held s.old) (child (S.held s.old) (child (S.held s.old) b i) j) }
     requires first { i < block_numbers (S.origin s.old).sizes }
     requires second { j < block_numbers (S.origin s.old).sizes }
     requires third { k < block_numbers (S.origin s.old).sizes }

@@ -56,9 +56,11 @@ fn content(alloc: Global) -> Result<Vec<Vec<u8>>, NoMemory>
 
 // A stake of the file, in which one call fails.
 fn file(alloc: Global, failing: u64) -> Result<OwnStake, NoMemory>
-    ensures tree { IfOk result (λ s. IsTree (⟦<OwnStake as Stake>⟧.origin s) (⟦<OwnStake as Stake>⟧.held s) (0 ∷ 0 ∷ 0 ∷ 0 ∷ 0 ∷ 0 ∷ 0 ∷ 0 ∷ 0 ∷ 0 ∷ 50 ∷ 0 ∷ 60 ∷ [])) }
+    ensures tree { IfOk result (λ s. IsTree (⟦<OwnStake as Stake>⟧.origin s) (⟦<OwnStake as Stake>⟧.held s)
+        (0 ∷ 0 ∷ 0 ∷ 0 ∷ 0 ∷ 0 ∷ 0 ∷ 0 ∷ 0 ∷ 0 ∷ 50 ∷ 0 ∷ 60 ∷ [])) }
     ensures lent { IfOk result (λ s. ⟦<OwnStake as Stake>⟧.lent s ≡ nothing_lent) }
-    ensures sizes { IfOk result (λ s. ⟦<OwnStake as Stake>⟧.origin s ≡ record { id = failing ∷ []; sizes = record { block_size = 1024; blocks = 200; first_data = 3 } }) }
+    ensures sizes { IfOk result (λ s. ⟦<OwnStake as Stake>⟧.origin s
+        ≡ record { id = failing ∷ []; sizes = record { block_size = 1024; blocks = 200; first_data = 3 } }) }
 {
     let sizes = Geometry {
         block_size: 1024,

@@ -1,5 +1,6 @@
 -- A file with eleven pages, whose blocks are 50 to 59 and 61, and the single indirect block 60.
-use Rattle.std.proofs.Common.{◌≡◌, ◌≢◌, ◌+◌, ◌-◌, ◌*◌, ◌/◌, ◌%◌, ◌<◌, ◌≤◌, ◌==◌, ◌&&◌, ℕ, zero, suc, Bool, true, false, cond, nat_lt, List, [], ◌∷◌, length, replicate, set, get_or, Some, None, unwrap_or, arith, ap, refl, sym, ◌∙◌}
+use Rattle.std.proofs.Common.{◌≡◌, ◌≢◌, ◌+◌, ◌-◌, ◌*◌, ◌/◌, ◌%◌, ◌<◌, ◌≤◌, ◌==◌, ◌&&◌, ℕ, zero, suc, Bool, true, false, cond, nat_lt}
+use Rattle.std.proofs.Common.{List, [], ◌∷◌, length, replicate, set, get_or, Some, None, unwrap_or, arith, ap, refl, sym, ◌∙◌}
 use Rattle.std.proofs.lemmas.Bool.{eqb-true}
 use Rattle.std.proofs.lemmas.Bool.Decides.{nat_tests}
 use Rattle.std.proofs.lemmas.List.{get_or-replicate, get_or-set_same, get_or-set_other, length-replicate}
@@ -26,17 +27,21 @@ eleven = 50 ∷ 51 ∷ 52 ∷ 53 ∷ 54 ∷ 55 ∷ 56 ∷ 57 ∷ 58 ∷ 59 ∷ 6
 less : (a b : ℕ) → a < b → nat_lt a b ≡ true
 less a b h = grind (nat_tests, arith)
 
-pub row-content : (g : Geometry) (xs : List (List ℕ)) (l : ℕ) → g ≡ sample_sizes → 60 < length xs → get_or xs 60 [] ≡ row → l < 16 → of_content g xs 60 l ≡ Some (line_of row l)
+pub row-content : (g : Geometry) (xs : List (List ℕ)) (l : ℕ) → g ≡ sample_sizes → 60 < length xs → get_or xs 60 [] ≡ row → l < 16
+    → of_content g xs 60 l ≡ Some (line_of row l)
 unfolding of_content
 row-content g xs l e some is low =
     ap (λ q. cond (q && nat_lt (l * 64) g.block_size) (Some (line_of (get_or xs 60 []) l)) None) (less 60 (length xs) some)
     ∙ (ap (λ q. cond (nat_lt (l * 64) q.block_size) (Some (line_of (get_or xs 60 []) l)) None) e
-    ∙ (ap (λ q. cond q (Some (line_of (get_or xs 60 []) l)) None) (less (l * 64) 1024 (omega (arith, low))) ∙ ap (λ q. Some (line_of q l)) is))
+    ∙ (ap (λ q. cond q (Some (line_of (get_or xs 60 []) l)) None) (less (l * 64) 1024 (omega (arith, low)))
+    ∙ ap (λ q. Some (line_of q l)) is))
 
-pub row-kept : {h mine theirs : Held} → Parts h (super_range ∷ []) mine theirs → (l : ℕ) → h 60 l ≡ Some (line_of row l) → mine 60 l ≡ Some (line_of row l)
+pub row-kept : {h mine theirs : Held} → Parts h (super_range ∷ []) mine theirs → (l : ℕ) → h 60 l ≡ Some (line_of row l)
+    → mine 60 l ≡ Some (line_of row l)
 unfolding rest
 row-kept {h} {mine} {theirs} parts l is =
-    ap (λ q. q 60 l) parts.kept ∙ (ap (λ t. cond t None (h 60 l)) (in_range-other super_range 60 l (λ same. absurd (omega (arith, same)))) ∙ is)
+    ap (λ q. q 60 l) parts.kept
+    ∙ (ap (λ t. cond t None (h 60 l)) (in_range-other super_range 60 l (λ same. absurd (omega (arith, same)))) ∙ is)
 
 -- ---- the numbers of the indirect block
 
@@ -48,12 +53,16 @@ byte m low differs = get_or-set_other (replicate 1024 0) 0 m 61 0 differs ∙ ge
 
 first-number : number32 row 0 ≡ 61
 first-number =
-    four _ _ _ _ 61 0 0 0 (get_or-set_same (replicate 1024 0) 0 61 0 (omega (arith, length-replicate {A = ℕ} 1024 0))) (byte 1 (omega arith) (omega arith)) (byte 2 (omega arith) (omega arith)) (byte 3 (omega arith) (omega arith))
+    four _ _ _ _ 61 0 0 0 (get_or-set_same (replicate 1024 0) 0 61 0 (omega (arith, length-replicate {A = ℕ} 1024 0)))
+    (byte 1 (omega arith) (omega arith)) (byte 2 (omega arith) (omega arith)) (byte 3 (omega arith) (omega arith))
     ∙ omega arith
 
 no-number : (k : ℕ) → k < 256 → k ≢ 0 → number32 row (k * 4) ≡ 0
 no-number k low other =
-    four _ _ _ _ 0 0 0 0 (byte (k * 4) (omega (arith, low)) (λ e. other (omega (arith, e)))) (byte (k * 4 + 1) (omega (arith, low)) (λ e. other (omega (arith, e)))) (byte (k * 4 + 2) (omega (arith, low)) (λ e. other (omega (arith, e)))) (byte (k * 4 + 2 + 1) (omega (arith, low)) (λ e. other (omega (arith, e))))
+    four _ _ _ _ 0 0 0 0 (byte (k * 4) (omega (arith, low)) (λ e. other (omega (arith, e))))
+    (byte (k * 4 + 1) (omega (arith, low)) (λ e. other (omega (arith, e))))
+    (byte (k * 4 + 2) (omega (arith, low)) (λ e. other (omega (arith, e))))
+    (byte (k * 4 + 2 + 1) (omega (arith, low)) (λ e. other (omega (arith, e))))
 
 -- where the lines of block 60 are held
 record HasRow (h : Held) : Type 0 where
@@ -104,7 +113,8 @@ top (suc (suc (suc (suc (suc (suc (suc (suc (suc (suc (suc zero))))))))))) some 
 top (suc (suc (suc (suc (suc (suc (suc (suc (suc (suc (suc (suc zero)))))))))))) some = absurd (some refl)
 top (suc (suc (suc (suc (suc (suc (suc (suc (suc (suc (suc (suc (suc slot))))))))))))) some = absurd (some refl)
 
-found : (h : Held) → HasRow h → (slot : ℕ) (ks : List ℕ) → IsSpot 256 slot ks → block_at h eleven slot ks ≢ 0 → Found slot ks (block_at h eleven slot ks)
+found : (h : Held) → HasRow h → (slot : ℕ) (ks : List ℕ) → IsSpot 256 slot ks → block_at h eleven slot ks ≢ 0
+    → Found slot ks (block_at h eleven slot ks)
 found h has slot [] spot some = let at = top slot some in direct slot (get_or eleven slot 0) at.0 at.1
 found h has slot (k ∷ ks) spot some = below ks refl
   where
@@ -133,7 +143,8 @@ found h has slot (k ∷ ks) spot some = below ks refl
         by : (t : Bool) → (k == 0) ≡ t → Found slot (k ∷ ks) (block_at h eleven slot (k ∷ ks))
         by false q = absurd (some (block ∙ (number-at h has k low ∙ no-number k low (no k 0 q))))
         by true q =
-            (let here : block_at h eleven slot (k ∷ ks) ≡ 61 = block ∙ (number-at h has k low ∙ (ap (λ z. number32 row (z * 4)) (eqb-true k 0 q) ∙ first-number)) in
+            (let here : block_at h eleven slot (k ∷ ks) ≡ 61 = block
+            ∙ (number-at h has k low ∙ (ap (λ z. number32 row (z * 4)) (eqb-true k 0 q) ∙ first-number)) in
             record {
               address = ten ∙ sym (ap (λ z. cond (z == 61) 10 (z - 50)) here);
               below = ap (λ z. z ∷ ks) (eqb-true k 0 q) ∙ (ap (λ z. 0 ∷ z) e ∙ sym (ap (λ z. cond (z == 61) (0 ∷ []) []) here));
@@ -144,19 +155,26 @@ found h has slot (k ∷ ks) spot some = below ks refl
 spot-is : (n slot : ℕ) (ks : List ℕ) → n ≡ 256 → IsSpot n slot ks → IsSpot 256 slot ks
 spot-is n slot ks e spot = record { among = spot.among; deep = spot.deep; places = λ i low. omega (arith, spot.places i low, e) }
 
-pub eleven_tree : (o : Origin) (h : Held) → o.sizes.block_size ≡ 1024 → ((l : ℕ) → l < 16 → h 60 l ≡ Some (line_of row l)) → ((b : ℕ) → 50 ≤ b → b < 62 → HoldsBlock o h b) → IsTree o h eleven
+pub eleven_tree : (o : Origin) (h : Held) → o.sizes.block_size ≡ 1024 → ((l : ℕ) → l < 16 → h 60 l ≡ Some (line_of row l))
+    → ((b : ℕ) → 50 ≤ b → b < 62 → HoldsBlock o h b) → IsTree o h eleven
 eleven_tree o h size has holds = record {
   whole = λ slot ks spot some. (let is = at slot ks spot some in holds (block_at h eleven slot ks) is.least is.most);
   once = λ slot ks other js spot that some same.
       (let one = at slot ks spot some in
-      let two = at other js that (λ e. some (same ∙ e)) in
-      (one.address ∙ (ap (λ q. cond (q == 61) 10 (q - 50)) same ∙ sym two.address), one.below ∙ (ap (λ q. cond (q == 61) (0 ∷ []) []) same ∙ sym two.below)));
+      let two = at other js that (λ e. some (same ∙ e)) in (
+        one.address ∙ (ap (λ q. cond (q == 61) 10 (q - 50)) same ∙ sym two.address),
+        one.below
+            ∙ (ap (λ q. cond (q == 61) (0 ∷ []) []) same ∙ sym two.below),
+      ));
 }
   where
-    at : (slot : ℕ) (ks : List ℕ) → IsSpot (block_numbers o.sizes) slot ks → block_at h eleven slot ks ≢ 0 → Found slot ks (block_at h eleven slot ks)
-    at slot ks spot some = found h (record { at = has }) slot ks (spot-is (block_numbers o.sizes) slot ks (ap (λ (q : ℕ). q / 4) size) spot) some
+    at : (slot : ℕ) (ks : List ℕ) → IsSpot (block_numbers o.sizes) slot ks → block_at h eleven slot ks ≢ 0
+        → Found slot ks (block_at h eleven slot ks)
+    at slot ks spot some = found h (record { at = has }) slot ks
+        (spot-is (block_numbers o.sizes) slot ks (ap (λ (q : ℕ). q / 4) size) spot) some
 
-pub eleven_data : (g : Geometry) (h : Held) → g.block_size ≡ 1024 → ((l : ℕ) → l < 16 → h 60 l ≡ Some (line_of row l)) → g.first_data ≤ 50 → 62 ≤ g.blocks → HasDataBlocks g h eleven
+pub eleven_data : (g : Geometry) (h : Held) → g.block_size ≡ 1024 → ((l : ℕ) → l < 16 → h 60 l ≡ Some (line_of row l)) → g.first_data ≤ 50
+    → 62 ≤ g.blocks → HasDataBlocks g h eleven
 eleven_data g h size has first blocks = record {
   at = λ slot ks spot some.
       (let is = found h (record { at = has }) slot ks (spot-is (block_numbers g) slot ks (ap (λ (q : ℕ). q / 4) size) spot) some in

@@ -23,7 +23,8 @@ block_is (suc (suc zero)) some = (refl, omega arith)
 block_is (suc (suc (suc zero))) some = (refl, omega arith)
 block_is (suc (suc (suc (suc m)))) some = absurd (some (zeros (suc (suc (suc (suc m))))))
 
-at_slot : (n : ℕ) (h : Held) (slot : ℕ) (ks : List ℕ) → IsSpot n slot ks → block_at h four slot ks ≢ 0 → (block_at h four slot ks ≡ 50 + slot) × (slot < 4) × (ks ≡ [])
+at_slot : (n : ℕ) (h : Held) (slot : ℕ) (ks : List ℕ) → IsSpot n slot ks → block_at h four slot ks ≢ 0
+    → (block_at h four slot ks ≡ 50 + slot) × (slot < 4) × (ks ≡ [])
 at_slot n h slot [] spot some = let is = block_is slot some in (is.0, is.1, refl)
 at_slot n h slot (k ∷ ks) spot some =
     let is = block_is slot (λ e. some (down_hole h (get_or four slot 0) (k ∷ ks) e)) in
@@ -31,7 +32,8 @@ at_slot n h slot (k ∷ ks) spot some =
 
 pub four_tree : (o : Origin) (h : Held) → ((b : ℕ) → b < 200 → HoldsBlock o h b) → IsTree o h four
 four_tree o h holds = record {
-  whole = λ slot ks spot some. (let is = at_slot (block_numbers o.sizes) h slot ks spot some in holds (block_at h four slot ks) (omega (arith, is.0, is.1)));
+  whole = λ slot ks spot some.
+      (let is = at_slot (block_numbers o.sizes) h slot ks spot some in holds (block_at h four slot ks) (omega (arith, is.0, is.1)));
   once = λ slot ks other js spot that some same.
       (let one = at_slot (block_numbers o.sizes) h slot ks spot some in
       let two = at_slot (block_numbers o.sizes) h other js that (λ e. some (same ∙ e)) in

@@ -1,5 +1,7 @@
 -- Blocks that are cut off a stake, merged back, or freed.
-use Rattle.std.proofs.Common.{◌≡◌, ◌≢◌, ◌≤◌, ◌<◌, ◌+◌, ◌++◌, ◌∷◌, ◌==◌, ◌||◌, get_or, ◌⊎◌, inl, inr, [], ℕ, zero, suc, Bool, true, false, cond, List, length, take, Option, Some, None, IsSome, is_some, nat_le, nat_lt, append-nil, append_assoc, length-append, refl, sym, ap, ◌∙◌, subst, arith}
+use Rattle.std.proofs.Common.{◌≡◌, ◌≢◌, ◌≤◌, ◌<◌, ◌+◌, ◌++◌, ◌∷◌, ◌==◌, ◌||◌, get_or, ◌⊎◌, inl, inr, [], ℕ, zero, suc, Bool, true, false}
+use Rattle.std.proofs.Common.{cond, List, length, take, Option, Some, None, IsSome, is_some, nat_le, nat_lt, append-nil, append_assoc}
+use Rattle.std.proofs.Common.{length-append, refl, sym, ap, ◌∙◌, subst, arith}
 use Rattle.std.specs.List.{All, sum_by}
 use Rattle.std.proofs.Math.Path.{fun_ext}
 use Rattle.std.proofs.lemmas.Bool.{eqb-true, false≢true}
@@ -35,7 +37,8 @@ is_more n h = grind (nat_tests, arith)
 -- ---- one block is cut off
 
 -- a block's range can be parted where a line besides is held that is in no data block
-pub can-cut : {o : Origin} {h : Held} {m : Lent} (b : ℕ) (r : LineRange) → IsGeometry o.sizes → IsDataBlock o.sizes b → HoldsBlock o h b → HoldsOther o h → m ≡ nothing_lent → r.block ≡ b → r.first ≡ 0 → r.count ≡ block_lines o.sizes → CanPart h m (r ∷ [])
+pub can-cut : {o : Origin} {h : Held} {m : Lent} (b : ℕ) (r : LineRange) → IsGeometry o.sizes → IsDataBlock o.sizes b → HoldsBlock o h b
+    → HoldsOther o h → m ≡ nothing_lent → r.block ≡ b → r.first ≡ 0 → r.count ≡ block_lines o.sizes → CanPart h m (r ∷ [])
 can-cut {o} {h} {m} b r sizes in_data holds more lent e f n =
     CanPart-range h m r
     (λ l low high. ap (λ q. is_some (h q l)) e ∙ holds.at l (omega (arith, high, f, n, sizes.block_size)))
@@ -73,12 +76,14 @@ pub less-more : (b : ℕ) (xs : List ℕ) (h : Held) → less b (less_all xs h) 
 unfolding less less_all
 less-more b xs h = fun_ext (λ c. fun_ext (λ l. by c l (c == b) refl))
   where
-    by : (c l : ℕ) (t : Bool) → (c == b) ≡ t → cond (c == b) None (cond (nat_lt 0 (times c xs)) None (h c l)) ≡ cond (nat_lt 0 (times c (xs ++ b ∷ []))) None (h c l)
+    by : (c l : ℕ) (t : Bool) → (c == b) ≡ t
+        → cond (c == b) None (cond (nat_lt 0 (times c xs)) None (h c l)) ≡ cond (nat_lt 0 (times c (xs ++ b ∷ []))) None (h c l)
     by c l true e =
         (let same : c ≡ b = eqb-true c b e in
         let here : (b == c) ≡ true = ap (λ q. b == q) same ∙ eqb_same b in
         let more : times c (xs ++ b ∷ []) ≡ times c xs + 1 = times-snoc c b xs ∙ ap (λ t. times c xs + one_if t) here in
-        ap (λ q. cond q None (cond (nat_lt 0 (times c xs)) None (h c l))) e ∙ sym (ap (λ q. cond q None (h c l)) (some (times c (xs ++ b ∷ [])) (omega (arith, more)))))
+        ap (λ q. cond q None (cond (nat_lt 0 (times c xs)) None (h c l))) e
+        ∙ sym (ap (λ q. cond q None (h c l)) (some (times c (xs ++ b ∷ [])) (omega (arith, more)))))
     by c l false e =
         (let no : (b == c) ≡ false = other b c (λ q. apart c b e (sym q)) in
         let as_before : times c (xs ++ b ∷ []) ≡ times c xs = times-snoc c b xs ∙ (ap (λ t. times c xs + one_if t) no ∙ omega arith) in
@@ -138,17 +143,26 @@ is-named xs i d low = omega (arith, not-before xs i d low)
 
 -- ---- one block more is cut off
 
-pub cut-none : {S : Type 0} (held : S → Held) (lent : S → Lent) (origin : S → Origin) (forced : S → Bool) (faults : S → ℕ) (o : Origin) (h : Held) (cuts : List (ℕ × S)) → cuts ≡ [] → IsCutFrom held lent origin forced faults o h h cuts
+pub cut-none : {S : Type 0} (held : S → Held) (lent : S → Lent) (origin : S → Origin) (forced : S → Bool) (faults : S → ℕ) (o : Origin)
+    (h : Held) (cuts : List (ℕ × S)) → cuts ≡ [] → IsCutFrom held lent origin forced faults o h h cuts
 cut-none {S} held lent origin forced faults o h cuts e =
     let P : List (ℕ × S) → Type 0 = λ q. IsCutFrom held lent origin forced faults o h h q in
-    subst P (sym e) (record { left = sym (less-none h); each = All-nil (IsCut held lent origin forced faults o h); once = λ b. omega (arith, times-nil b) })
+    subst P (sym e) (record {
+      left = sym (less-none h);
+      each = All-nil (IsCut held lent origin forced faults o h);
+      once =
+          λ b. omega (arith, times-nil b);
+    })
 
-pub cut-more : {S : Type 0} {held : S → Held} {lent : S → Lent} {origin : S → Origin} {forced : S → Bool} {faults : S → ℕ} {o o' : Origin} {h now new : Held} {cuts more : List (ℕ × S)} (b : ℕ) → IsCutFrom held lent origin forced faults o h now cuts → times b (names_of cuts) ≡ 0 → o' ≡ o → new ≡ less b now
+pub cut-more : {S : Type 0} {held : S → Held} {lent : S → Lent} {origin : S → Origin} {forced : S → Bool} {faults : S → ℕ} {o o' : Origin}
+    {h now new : Held} {cuts more : List (ℕ × S)} (b : ℕ) → IsCutFrom held lent origin forced faults o h now cuts
+    → times b (names_of cuts) ≡ 0 → o' ≡ o → new ≡ less b now
     → (part : S) × ((more ≡ cuts ++ (b, part) ∷ []) × IsCut held lent origin forced faults o' now (b, part))
     → IsCutFrom held lent origin forced faults o h new more
 cut-more {S} {held} {lent} {origin} {forced} {faults} {o} {o'} {h} {now} {new} {cuts} {more} b from first home less_now cut = record {
   left = less_now ∙ (ap (less b) from.left ∙ (less-more b (names_of cuts) h ∙ ap (λ q. less_all q h) (sym names)));
-  each = All-same (IsCut held lent origin forced faults o h) more (cuts ++ (b, cut.0) ∷ []) cut.1.0 (All-push (IsCut held lent origin forced faults o h) cuts (b, cut.0) from.each here);
+  each = All-same (IsCut held lent origin forced faults o h) more (cuts ++ (b, cut.0) ∷ []) cut.1.0
+      (All-push (IsCut held lent origin forced faults o h) cuts (b, cut.0) from.each here);
   once = λ c. once c (b == c) refl;
 }
   where
@@ -167,24 +181,31 @@ cut-more {S} {held} {lent} {origin} {forced} {faults} {o} {o'} {h} {now} {new} {
     once : (c : ℕ) (t : Bool) → (b == c) ≡ t → times c (names_of more) ≤ 1
     once c true e =
         (let same : times c (names_of cuts) ≡ 0 = ap (λ q. times q (names_of cuts)) (sym (eqb-true b c e)) ∙ first in
-        let all : times c (names_of more) ≡ times c (names_of cuts) + 1 = ap (times c) names ∙ (times-snoc c b (names_of cuts) ∙ ap (λ q. times c (names_of cuts) + one_if q) e) in
+        let all : times c (names_of more) ≡ times c (names_of cuts) + 1 = ap (times c) names
+        ∙ (times-snoc c b (names_of cuts) ∙ ap (λ q. times c (names_of cuts) + one_if q) e) in
         omega (arith, same, all))
     once c false e =
-        (let all : times c (names_of more) ≡ times c (names_of cuts) + 0 = ap (times c) names ∙ (times-snoc c b (names_of cuts) ∙ ap (λ q. times c (names_of cuts) + one_if q) e) in
+        (let all : times c (names_of more) ≡ times c (names_of cuts) + 0 = ap (times c) names
+        ∙ (times-snoc c b (names_of cuts) ∙ ap (λ q. times c (names_of cuts) + one_if q) e) in
         omega (arith, from.once c, all))
 
 -- what is held of the next block, and of the line that is in none
-pub whole-left : {o o' : Origin} {h now : Held} (xs : List ℕ) (i d : ℕ) → AreBlocks o h xs → i < length xs → o' ≡ o → now ≡ less_all (take i xs) h → HoldsBlock o' now (get_or xs i d)
+pub whole-left : {o o' : Origin} {h now : Held} (xs : List ℕ) (i d : ℕ) → AreBlocks o h xs → i < length xs → o' ≡ o
+    → now ≡ less_all (take i xs) h → HoldsBlock o' now (get_or xs i d)
 whole-left {o} {o'} {h} {now} xs i d all low home left = record {
   at = λ l fits.
       ap (λ q. is_some (q (get_or xs i d) l)) left
-      ∙ (ap is_some (less-at (take i xs) h (get_or xs i d) l (named-once xs i d all low)) ∙ (all.whole (get_or xs i d) (is-named xs i d low)).at l (omega (arith, fits, ap (λ q. q.sizes.block_size) home)));
+      ∙ (ap is_some (less-at (take i xs) h (get_or xs i d) l (named-once xs i d all low))
+      ∙ (all.whole (get_or xs i d) (is-named xs i d low)).at l (omega (arith, fits, ap (λ q. q.sizes.block_size) home)));
 }
 
-pub data-left : {o o' : Origin} {h : Held} (xs : List ℕ) (i d : ℕ) → AreBlocks o h xs → i < length xs → o' ≡ o → IsDataBlock o'.sizes (get_or xs i d)
-data-left xs i d all low home = let P : Origin → Type 0 = λ q. IsDataBlock q.sizes (get_or xs i d) in subst P (sym home) (all.in_data (get_or xs i d) (is-named xs i d low))
+pub data-left : {o o' : Origin} {h : Held} (xs : List ℕ) (i d : ℕ) → AreBlocks o h xs → i < length xs → o' ≡ o
+    → IsDataBlock o'.sizes (get_or xs i d)
+data-left xs i d all low home = let P : Origin
+    → Type 0 = λ q. IsDataBlock q.sizes (get_or xs i d) in subst P (sym home) (all.in_data (get_or xs i d) (is-named xs i d low))
 
-pub other-left : {o o' : Origin} {h now : Held} (xs : List ℕ) (i : ℕ) → AreBlocks o h xs → HoldsOther o h → o' ≡ o → now ≡ less_all (take i xs) h → HoldsOther o' now
+pub other-left : {o o' : Origin} {h now : Held} (xs : List ℕ) (i : ℕ) → AreBlocks o h xs → HoldsOther o h → o' ≡ o
+    → now ≡ less_all (take i xs) h → HoldsOther o' now
 other-left {o} {o'} {h} {now} xs i all more home left = record {
   block = more.block;
   line = more.line;
@@ -202,12 +223,16 @@ other-left {o} {o'} {h} {now} xs i all more home left = record {
 -- ---- what was cut off comes back
 
 -- the last of the first n
-pub cut-at : {S : Type 0} {held : S → Held} {lent : S → Lent} {origin : S → Origin} {forced : S → Bool} {faults : S → ℕ} {o : Origin} {h : Held} (ps xs ys : List (ℕ × S)) (x : ℕ × S) (n m : ℕ) → All (IsCut held lent origin forced faults o h) ps → xs ≡ take n ps → n ≤ length ps → n ≡ m + 1 → xs ≡ ys ++ x ∷ [] → IsCut held lent origin forced faults o h x
+pub cut-at : {S : Type 0} {held : S → Held} {lent : S → Lent} {origin : S → Origin} {forced : S → Bool} {faults : S → ℕ} {o : Origin}
+    {h : Held} (ps xs ys : List (ℕ × S)) (x : ℕ × S) (n m : ℕ) → All (IsCut held lent origin forced faults o h) ps → xs ≡ take n ps
+    → n ≤ length ps → n ≡ m + 1 → xs ≡ ys ++ x ∷ [] → IsCut held lent origin forced faults o h x
 cut-at {S} {held} {lent} {origin} {forced} {faults} {o} {h} ps xs ys x n m all front low next pop =
     let P : ℕ × S → Type 0 = IsCut held lent origin forced faults o h in
     subst P (sym (popped ps xs ys x x n m front low next pop).1) (all m x (omega (arith, low, next)))
 
-pub part-at : {S : Type 0} {held : S → Held} {lent : S → Lent} {origin : S → Origin} {forced : S → Bool} {o : Origin} {h : Held} (ps xs ys : List (ℕ × S)) (x : ℕ × S) (n m : ℕ) → All (IsPart held lent origin forced o h) ps → xs ≡ take n ps → n ≤ length ps → n ≡ m + 1 → xs ≡ ys ++ x ∷ [] → IsPart held lent origin forced o h x
+pub part-at : {S : Type 0} {held : S → Held} {lent : S → Lent} {origin : S → Origin} {forced : S → Bool} {o : Origin} {h : Held}
+    (ps xs ys : List (ℕ × S)) (x : ℕ × S) (n m : ℕ) → All (IsPart held lent origin forced o h) ps → xs ≡ take n ps → n ≤ length ps
+    → n ≡ m + 1 → xs ≡ ys ++ x ∷ [] → IsPart held lent origin forced o h x
 part-at {S} {held} {lent} {origin} {forced} {o} {h} ps xs ys x n m all front low next pop =
     let P : ℕ × S → Type 0 = IsPart held lent origin forced o h in
     subst P (sym (popped ps xs ys x x n m front low next pop).1) (all m x (omega (arith, low, next)))
@@ -217,40 +242,56 @@ names-push xs ys x pop = ap names_of pop ∙ map_push (λ q. q.0) ys x
 
 pub names-in : {S : Type 0} (xs ys : List (ℕ × S)) (x : ℕ × S) → xs ≡ ys ++ x ∷ [] → 0 < times x.0 (names_of xs)
 names-in xs ys x pop =
-    let all : times x.0 (names_of xs) ≡ times x.0 (names_of ys) + one_if (x.0 == x.0) = ap (times x.0) (names-push xs ys x pop) ∙ times-snoc x.0 x.0 (names_of ys) in
+    let all : times x.0 (names_of xs) ≡ times x.0 (names_of ys) + one_if (x.0 == x.0) = ap (times x.0) (names-push xs ys x pop)
+    ∙ times-snoc x.0 x.0 (names_of ys) in
     omega (arith, all, ap one_if (eqb_same x.0))
 
 -- it is named once, so that it is not among those before it
-pub names-first : {S : Type 0} (ps xs ys : List (ℕ × S)) (x : ℕ × S) (n m : ℕ) → ((b : ℕ) → times b (names_of ps) ≤ 1) → xs ≡ take n ps → n ≤ length ps → n ≡ m + 1 → xs ≡ ys ++ x ∷ [] → times x.0 (names_of ys) ≡ 0
+pub names-first : {S : Type 0} (ps xs ys : List (ℕ × S)) (x : ℕ × S) (n m : ℕ) → ((b : ℕ) → times b (names_of ps) ≤ 1) → xs ≡ take n ps
+    → n ≤ length ps → n ≡ m + 1 → xs ≡ ys ++ x ∷ [] → times x.0 (names_of ys) ≡ 0
 names-first ps xs ys x n m once front low next pop =
-    let all : times x.0 (names_of xs) ≡ times x.0 (names_of ys) + one_if (x.0 == x.0) = ap (times x.0) (names-push xs ys x pop) ∙ times-snoc x.0 x.0 (names_of ys) in
-    let some_of : times x.0 (names_of xs) ≡ times x.0 (take n (names_of ps)) = ap (λ q. times x.0 (names_of q)) front ∙ ap (times x.0) (sym (take-map (λ q. q.0) n ps)) in
+    let all : times x.0 (names_of xs) ≡ times x.0 (names_of ys) + one_if (x.0 == x.0) = ap (times x.0) (names-push xs ys x pop)
+    ∙ times-snoc x.0 x.0 (names_of ys) in
+    let some_of : times x.0 (names_of xs) ≡ times x.0 (take n (names_of ps)) = ap (λ q. times x.0 (names_of q)) front
+    ∙ ap (times x.0) (sym (take-map (λ q. q.0) n ps)) in
     omega (arith, all, some_of, ap one_if (eqb_same x.0), once x.0, times-take x.0 n (names_of ps))
 
 -- it is one of all
-pub names-of-all : {S : Type 0} (ps xs ys : List (ℕ × S)) (x : ℕ × S) (n : ℕ) → xs ≡ take n ps → xs ≡ ys ++ x ∷ [] → 0 < times x.0 (names_of ps)
+pub names-of-all : {S : Type 0} (ps xs ys : List (ℕ × S)) (x : ℕ × S) (n : ℕ) → xs ≡ take n ps → xs ≡ ys ++ x ∷ []
+    → 0 < times x.0 (names_of ps)
 names-of-all ps xs ys x n front pop =
-    let some_of : times x.0 (names_of xs) ≡ times x.0 (take n (names_of ps)) = ap (λ q. times x.0 (names_of q)) front ∙ ap (times x.0) (sym (take-map (λ q. q.0) n ps)) in
+    let some_of : times x.0 (names_of xs) ≡ times x.0 (take n (names_of ps)) = ap (λ q. times x.0 (names_of q)) front
+    ∙ ap (times x.0) (sym (take-map (λ q. q.0) n ps)) in
     omega (arith, some_of, names-in xs ys x pop, times-take x.0 n (names_of ps))
 
 less-all-apart : (h : Held) {k part : Held} (b : ℕ) (xs : List ℕ) → k ≡ less_all xs h → 0 < times b xs → part ≡ alone b h → Apart k part
 unfolding less_all alone
-less-all-apart h {k} {part} b xs e gone f = record { at = λ c l is. ap (λ q. q c l) f ∙ by c l (c == b) refl (sym (ap (λ q. is_some (q c l)) e) ∙ is) }
+less-all-apart h {k} {part} b xs e gone f =
+    record { at = λ c l is. ap (λ q. q c l) f ∙ by c l (c == b) refl (sym (ap (λ q. is_some (q c l)) e) ∙ is) }
   where
-    by : (c l : ℕ) (t : Bool) → (c == b) ≡ t → is_some (cond (nat_lt 0 (times c xs)) None (h c l)) ≡ true → cond (c == b) (h c l) None ≡ None
+    by : (c l : ℕ) (t : Bool) → (c == b) ≡ t → is_some (cond (nat_lt 0 (times c xs)) None (h c l)) ≡ true
+        → cond (c == b) (h c l) None ≡ None
     by c l true q is =
-        absurd (false≢true (sym (ap (λ t. is_some (cond t None (h c l))) (some (times c xs) (omega (arith, gone, ap (λ z. times z xs) (eqb-true c b q))))) ∙ is))
+        absurd (false≢true (sym
+        (ap (λ t. is_some (cond t None (h c l))) (some (times c xs) (omega (arith, gone, ap (λ z. times z xs) (eqb-true c b q)))))
+        ∙ is))
     by c l false q is = ap (λ t. cond t (h c l) None) q
 
-pub merge-apart : {S : Type 0} {held : S → Held} {lent : S → Lent} {origin : S → Origin} {forced : S → Bool} {faults : S → ℕ} {o : Origin} {h was now : Held} (ps xs ys : List (ℕ × S)) (x : ℕ × S) (n m : ℕ) → IsCutFrom held lent origin forced faults o h was ps → xs ≡ take n ps → n ≤ length ps → n ≡ m + 1 → xs ≡ ys ++ x ∷ [] → now ≡ less_all (names_of xs) h → Apart now (held x.1)
+pub merge-apart : {S : Type 0} {held : S → Held} {lent : S → Lent} {origin : S → Origin} {forced : S → Bool} {faults : S → ℕ} {o : Origin}
+    {h was now : Held} (ps xs ys : List (ℕ × S)) (x : ℕ × S) (n m : ℕ) → IsCutFrom held lent origin forced faults o h was ps
+    → xs ≡ take n ps → n ≤ length ps → n ≡ m + 1 → xs ≡ ys ++ x ∷ [] → now ≡ less_all (names_of xs) h → Apart now (held x.1)
 merge-apart {h = h} ps xs ys x n m from front low next pop left =
     less-all-apart h x.0 (names_of xs) left (names-in xs ys x pop) (cut-at ps xs ys x n m from.each front low next pop).lines
 
-pub merged-more : {S : Type 0} {held : S → Held} {lent : S → Lent} {origin : S → Origin} {forced : S → Bool} {faults : S → ℕ} {o : Origin} {h was now new : Held} (ps xs ys : List (ℕ × S)) (x : ℕ × S) (n m : ℕ) → IsCutFrom held lent origin forced faults o h was ps → xs ≡ take n ps → n ≤ length ps → n ≡ m + 1 → xs ≡ ys ++ x ∷ [] → now ≡ less_all (names_of xs) h → new ≡ Both now (held x.1) → new ≡ less_all (names_of ys) h
+pub merged-more : {S : Type 0} {held : S → Held} {lent : S → Lent} {origin : S → Origin} {forced : S → Bool} {faults : S → ℕ} {o : Origin}
+    {h was now new : Held} (ps xs ys : List (ℕ × S)) (x : ℕ × S) (n m : ℕ) → IsCutFrom held lent origin forced faults o h was ps
+    → xs ≡ take n ps → n ≤ length ps → n ≡ m + 1 → xs ≡ ys ++ x ∷ [] → now ≡ less_all (names_of xs) h → new ≡ Both now (held x.1)
+    → new ≡ less_all (names_of ys) h
 merged-more {h = h} {now = now} ps xs ys x n m from front low next pop left both =
     both
     ∙ (ap (Both now) (cut-at ps xs ys x n m from.each front low next pop).lines
-    ∙ (ap (λ q. Both q (alone x.0 h)) (left ∙ ap (λ q. less_all q h) (names-push xs ys x pop)) ∙ less-merged x.0 (names_of ys) h (names-first ps xs ys x n m from.once front low next pop)))
+    ∙ (ap (λ q. Both q (alone x.0 h)) (left ∙ ap (λ q. less_all q h) (names-push xs ys x pop))
+    ∙ less-merged x.0 (names_of ys) h (names-first ps xs ys x n m from.once front low next pop)))
 
 -- ---- blocks that are freed
 
@@ -272,7 +313,8 @@ freed-none before old all left e = record {
   rose = λ some_kept. absurd (omega (arith, some_kept));
 }
 
-pub freed-all : {S : Type 0} {before now : ℕ} {old new : Core S} {all left : List ℕ} → left ≡ [] → FreesUpTo before now old new all left → FreesAll before now old new all
+pub freed-all : {S : Type 0} {before now : ℕ} {old new : Core S} {all left : List ℕ} → left ≡ [] → FreesUpTo before now old new all left
+    → FreesAll before now old new all
 freed-all {left = left} e freed = record {
   chained = freed.chained;
   kept = freed.kept;
@@ -300,7 +342,9 @@ rose-now before was met now first up (inl rose) = by (le-or last_count now)
     by (inr low) = inl (omega (arith, first, up, rose, low))
 rose-now before was met now first up (inr last) = inr (omega (arith, last))
 
-pub freed-more : {S : Type 0} {before was met now : ℕ} {old mid new : Core S} {all xs ys : List ℕ} (b : ℕ) → FreesUpTo before was old mid all xs → counted before 0 ≤ was → counted was 0 ≤ met → met ≤ now → xs ≡ ys ++ b ∷ [] → Frees met now mid new b → FreesUpTo before now old new all ys
+pub freed-more : {S : Type 0} {before was met now : ℕ} {old mid new : Core S} {all xs ys : List ℕ} (b : ℕ)
+    → FreesUpTo before was old mid all xs → counted before 0 ≤ was → counted was 0 ≤ met → met ≤ now → xs ≡ ys ++ b ∷ []
+    → Frees met now mid new b → FreesUpTo before now old new all ys
 freed-more {S} {before} {was} {met} {now} {old} {mid} {new} {all} {xs} {ys} b freed first e more pop frees = by frees
   where
     up : counted was 0 ≤ now
@@ -357,7 +401,8 @@ only-here : (xs : List ℕ) (b : ℕ) (h : Held) (c l : ℕ) → 0 < times b xs 
 only-here xs b h c l is e =
     only-at xs h c l true (some (times c xs) (omega (arith, is, ap (λ q. times q xs) (eqb-true c b e))))
 
-pub only-apart : (h : Held) {k part : Held} (b : ℕ) (xs : List ℕ) → Apart k (only xs h) → 0 < times b xs → SameLines part (alone b h) → Apart k part
+pub only-apart : (h : Held) {k part : Held} (b : ℕ) (xs : List ℕ) → Apart k (only xs h) → 0 < times b xs → SameLines part (alone b h)
+    → Apart k part
 only-apart h {k} {part} b xs away is e = record { at = λ c l held. by c l held (c == b) refl }
   where
     by : (c l : ℕ) → IsSome (k c l) → (t : Bool) → (c == b) ≡ t → part c l ≡ None
@@ -366,7 +411,8 @@ only-apart h {k} {part} b xs away is e = record { at = λ c l held. by c l held 
     by c l held false q = no-line (part c l) (e.at c l ∙ ap is_some (alone-at b h c l false q))
 
 -- what the core holds after a block was freed
-pub apart-more : (h : Held) {k part new : Held} (b : ℕ) (xs ys : List ℕ) → Apart k (only xs h) → xs ≡ ys ++ b ∷ [] → times b ys ≡ 0 → SameLines part (alone b h) → SameLines new (Both k part) → Apart new (only ys h)
+pub apart-more : (h : Held) {k part new : Held} (b : ℕ) (xs ys : List ℕ) → Apart k (only xs h) → xs ≡ ys ++ b ∷ [] → times b ys ≡ 0
+    → SameLines part (alone b h) → SameLines new (Both k part) → Apart new (only ys h)
 apart-more h {k} {part} {new} b xs ys away pop gone e same = record { at = λ c l held. by c l held (c == b) refl }
   where
     by : (c l : ℕ) → IsSome (new c l) → (t : Bool) → (c == b) ≡ t → only ys h c l ≡ None
@@ -376,12 +422,16 @@ apart-more h {k} {part} {new} b xs ys away pop gone e same = record { at = λ c 
         mine : (t : Bool) → is_some (k c l) ≡ t → is_some (k c l) ≡ true
         mine true z = z
         mine false z =
-            absurd (false≢true (sym (e.at c l ∙ ap is_some (alone-at b h c l false q)) ∙ (sym (ap (λ w. cond w true (is_some (part c l))) z) ∙ (sym (is_some-Both k part c l) ∙ (sym (same.at c l) ∙ held)))))
+            absurd (false≢true (sym (e.at c l ∙ ap is_some (alone-at b h c l false q))
+            ∙ (sym (ap (λ w. cond w true (is_some (part c l))) z) ∙ (sym (is_some-Both k part c l) ∙ (sym (same.at c l) ∙ held)))))
 
-pub lines-more : (k h first : Held) (all : List ℕ) {part new : Held} (b : ℕ) (xs ys : List ℕ) → xs ≡ ys ++ b ∷ [] → 0 < times b xs → times b ys ≡ 0 → SameLines part (alone b h) → SameLines new (Both k part) → SameLines (Both k (only xs h)) (Both first (only all h)) → SameLines (Both new (only ys h)) (Both first (only all h))
+pub lines-more : (k h first : Held) (all : List ℕ) {part new : Held} (b : ℕ) (xs ys : List ℕ) → xs ≡ ys ++ b ∷ [] → 0 < times b xs
+    → times b ys ≡ 0 → SameLines part (alone b h) → SameLines new (Both k part) → SameLines (Both k (only xs h)) (Both first (only all h))
+    → SameLines (Both new (only ys h)) (Both first (only all h))
 lines-more k h first all {part} {new} b xs ys pop is gone e same before = record { at = λ c l. by c l (c == b) refl ∙ before.at c l }
   where
-    now : (c l : ℕ) → is_some (Both new (only ys h) c l) ≡ cond (cond (is_some (k c l)) true (is_some (part c l))) true (is_some (only ys h c l))
+    now : (c l : ℕ) → is_some (Both new (only ys h) c l) ≡ cond (cond (is_some (k c l)) true (is_some (part c l))) true
+        (is_some (only ys h c l))
     now c l = is_some-Both new (only ys h) c l ∙ ap (λ q. cond q true (is_some (only ys h c l))) (same.at c l ∙ is_some-Both k part c l)
 
     three : (x y : Bool) → cond (cond x true y) true false ≡ cond x true y
@@ -396,20 +446,26 @@ lines-more k h first all {part} {new} b xs ys pop is gone e same before = record
     by : (c l : ℕ) (t : Bool) → (c == b) ≡ t → is_some (Both new (only ys h) c l) ≡ is_some (Both k (only xs h) c l)
     by c l true q =
         now c l
-        ∙ (ap (λ z. cond (cond (is_some (k c l)) true (is_some (part c l))) true (is_some z)) (only-at ys h c l false (none (times c ys) (ap (λ z. times z ys) (eqb-true c b q) ∙ gone)))
+        ∙ (ap (λ z. cond (cond (is_some (k c l)) true (is_some (part c l))) true (is_some z))
+        (only-at ys h c l false (none (times c ys) (ap (λ z. times z ys) (eqb-true c b q) ∙ gone)))
         ∙ (three (is_some (k c l)) (is_some (part c l))
-        ∙ (ap (cond (is_some (k c l)) true) (e.at c l ∙ ap is_some (alone-at b h c l true q ∙ sym (only-here xs b h c l is q))) ∙ sym (is_some-Both k (only xs h) c l))))
+        ∙ (ap (cond (is_some (k c l)) true) (e.at c l ∙ ap is_some (alone-at b h c l true q ∙ sym (only-here xs b h c l is q)))
+        ∙ sym (is_some-Both k (only xs h) c l))))
     by c l false q =
         now c l
         ∙ (ap (λ z. cond (cond (is_some (k c l)) true z) true (is_some (only ys h c l))) (e.at c l ∙ ap is_some (alone-at b h c l false q))
-        ∙ (two (is_some (k c l)) (is_some (only ys h c l)) ∙ (ap (λ z. cond (is_some (k c l)) true (is_some z)) (sym (only-same xs ys b h c l pop q)) ∙ sym (is_some-Both k (only xs h) c l))))
+        ∙ (two (is_some (k c l)) (is_some (only ys h c l))
+        ∙ (ap (λ z. cond (is_some (k c l)) true (is_some z)) (sym (only-same xs ys b h c l pop q))
+        ∙ sym (is_some-Both k (only xs h) c l))))
 
 -- a block that is not among those that are freed
-pub others-more : (k h : Held) {part new : Held} (b : ℕ) (all : List ℕ) → 0 < times b all → SameLines part (alone b h) → ((c l : ℕ) → c ≢ b → new c l ≡ Both k part c l) → (c l : ℕ) → times c all ≡ 0 → new c l ≡ k c l
+pub others-more : (k h : Held) {part new : Held} (b : ℕ) (all : List ℕ) → 0 < times b all → SameLines part (alone b h)
+    → ((c l : ℕ) → c ≢ b → new c l ≡ Both k part c l) → (c l : ℕ) → times c all ≡ 0 → new c l ≡ k c l
 unfolding Both
 others-more k h {part} {new} b all is e rest c l gone =
     rest c l away
-    ∙ (ap (λ q. cond (is_some (k c l)) (k c l) q) (no-line (part c l) (e.at c l ∙ ap is_some (alone-at b h c l false (other c b away)))) ∙ same (k c l))
+    ∙ (ap (λ q. cond (is_some (k c l)) (k c l) q) (no-line (part c l) (e.at c l ∙ ap is_some (alone-at b h c l false (other c b away))))
+    ∙ same (k c l))
   where
     away : c ≢ b
     away q = absurd (omega (arith, is, gone, ap (λ z. times z all) q))
@@ -419,28 +475,37 @@ others-more k h {part} {new} b all is e rest c l gone =
     same (Some x) = refl
 
 -- no block is left
-pub lines-all : (k h first : Held) (all : List ℕ) {left : List ℕ} → left ≡ [] → SameLines (Both k (only left h)) (Both first (only all h)) → SameLines k (Both first (only all h))
+pub lines-all : (k h first : Held) (all : List ℕ) {left : List ℕ} → left ≡ [] → SameLines (Both k (only left h)) (Both first (only all h))
+    → SameLines k (Both first (only all h))
 lines-all k h first all {left} e same = record { at = λ c l. by c l (is_some (k c l)) refl ∙ same.at c l }
   where
     by : (c l : ℕ) (t : Bool) → is_some (k c l) ≡ t → is_some (k c l) ≡ is_some (Both k (only left h) c l)
     by c l true q = q ∙ sym (is_some-Both k (only left h) c l ∙ ap (λ z. cond z true (is_some (only left h c l))) q)
     by c l false q =
         q
-        ∙ sym (is_some-Both k (only left h) c l ∙ (ap (λ z. cond z true (is_some (only left h c l))) q ∙ ap is_some (only-at left h c l false (none (times c left) (ap (times c) e ∙ times-nil c)))))
+        ∙ sym (is_some-Both k (only left h) c l
+        ∙ (ap (λ z. cond z true (is_some (only left h c l))) q
+        ∙ ap is_some (only-at left h c l false (none (times c left) (ap (times c) e ∙ times-nil c)))))
 
 pub names-none : {S : Type 0} (ps xs : List (ℕ × S)) (n : ℕ) → xs ≡ take n ps → n ≡ 0 → names_of xs ≡ []
 names-none ps xs n front e = ap names_of (front ∙ ap (λ q. take q ps) e)
 
 pub holds-part : {o : Origin} {h part : Held} (b : ℕ) → SameLines part (alone b h) → HoldsBlock o h b → HoldsBlock o part b
-holds-part {o} {h} {part} b lines whole = record { at = λ l fits. lines.at b l ∙ (ap is_some (alone-at b h b l true (eqb_same b)) ∙ whole.at l fits) }
+holds-part {o} {h} {part} b lines whole =
+    record { at = λ l fits. lines.at b l ∙ (ap is_some (alone-at b h b l true (eqb_same b)) ∙ whole.at l fits) }
 
 -- what one cut needs to be freed
-pub block-freed : {S : Type 0} {held : S → Held} {lent : S → Lent} {origin : S → Origin} {forced : S → Bool} {o o' : Origin} {h mine : Held} (ps xs ys : List (ℕ × S)) (x : ℕ × S) (n m : ℕ) → CanFreeAll held lent origin forced o h mine ps → xs ≡ take n ps → n ≤ length ps → n ≡ m + 1 → xs ≡ ys ++ x ∷ [] → o' ≡ o → HoldsBlock o' (held x.1) x.0
+pub block-freed : {S : Type 0} {held : S → Held} {lent : S → Lent} {origin : S → Origin} {forced : S → Bool} {o o' : Origin}
+    {h mine : Held} (ps xs ys : List (ℕ × S)) (x : ℕ × S) (n m : ℕ) → CanFreeAll held lent origin forced o h mine ps → xs ≡ take n ps
+    → n ≤ length ps → n ≡ m + 1 → xs ≡ ys ++ x ∷ [] → o' ≡ o → HoldsBlock o' (held x.1) x.0
 block-freed {held = held} {o = o} {o' = o'} {h = h} ps xs ys x n m can front low next pop home =
     let P : Origin → Type 0 = λ q. HoldsBlock q (held x.1) x.0 in
-    subst P (sym home) (holds-part x.0 (part-at ps xs ys x n m can.each front low next pop).lines (can.are.whole x.0 (names-of-all ps xs ys x n front pop)))
+    subst P (sym home) (holds-part x.0 (part-at ps xs ys x n m can.each front low next pop).lines
+    (can.are.whole x.0 (names-of-all ps xs ys x n front pop)))
 
-pub data-freed : {S : Type 0} {held : S → Held} {lent : S → Lent} {origin : S → Origin} {forced : S → Bool} {o o' : Origin} {h mine : Held} (ps xs ys : List (ℕ × S)) (x : ℕ × S) (n : ℕ) → CanFreeAll held lent origin forced o h mine ps → xs ≡ take n ps → xs ≡ ys ++ x ∷ [] → o' ≡ o → IsDataBlock o'.sizes x.0
+pub data-freed : {S : Type 0} {held : S → Held} {lent : S → Lent} {origin : S → Origin} {forced : S → Bool} {o o' : Origin} {h mine : Held}
+    (ps xs ys : List (ℕ × S)) (x : ℕ × S) (n : ℕ) → CanFreeAll held lent origin forced o h mine ps → xs ≡ take n ps → xs ≡ ys ++ x ∷ []
+    → o' ≡ o → IsDataBlock o'.sizes x.0
 data-freed ps xs ys x n can front pop home =
     let P : Origin → Type 0 = λ q. IsDataBlock q.sizes x.0 in
     subst P (sym home) (can.are.in_data x.0 (names-of-all ps xs ys x n front pop))
@@ -458,12 +523,15 @@ unforced-more first {was} {part} {now} e unforced before = e ∙ (ap (λ q. was 
 sum-snoc : {S : Type 0} (f : ℕ × S → ℕ) (ys : List (ℕ × S)) (x : ℕ × S) → sum_by f (ys ++ x ∷ []) ≡ sum_by f ys + f x
 sum-snoc f ys x = sum_by-append f ys (x ∷ []) ∙ omega arith
 
-pub none-left : {S : Type 0} (f : ℕ × S → ℕ) (first now total n : ℕ) (ps xs : List (ℕ × S)) → counted first total ≤ counted now (sum_by f xs) → xs ≡ take n ps → n ≡ 0 → counted first total ≤ now
+pub none-left : {S : Type 0} (f : ℕ × S → ℕ) (first now total n : ℕ) (ps xs : List (ℕ × S))
+    → counted first total ≤ counted now (sum_by f xs) → xs ≡ take n ps → n ≡ 0 → counted first total ≤ now
 none-left f first now total n ps xs before front e =
     let none_of : sum_by f xs ≡ 0 = ap (sum_by f) (front ∙ ap (λ q. take q ps) e) in
     omega (arith, before, none_of)
 
-pub all-faults : {S : Type 0} (f : ℕ × S → ℕ) (first was now : ℕ) (xs ys : List (ℕ × S)) (x : ℕ × S) (total : ℕ) → counted first total ≤ counted was (sum_by f xs) → xs ≡ ys ++ x ∷ [] → counted was (f x) ≤ now → counted first total ≤ counted now (sum_by f ys)
+pub all-faults : {S : Type 0} (f : ℕ × S → ℕ) (first was now : ℕ) (xs ys : List (ℕ × S)) (x : ℕ × S) (total : ℕ)
+    → counted first total ≤ counted was (sum_by f xs) → xs ≡ ys ++ x ∷ [] → counted was (f x) ≤ now
+    → counted first total ≤ counted now (sum_by f ys)
 all-faults f first was now xs ys x total before pop met =
     let all : sum_by f xs ≡ sum_by f ys + f x = ap (sum_by f) pop ∙ sum-snoc f ys x in
     omega (arith, before, all, met)

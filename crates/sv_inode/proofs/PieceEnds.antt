@@ -1,5 +1,6 @@
 -- Where the pieces of what is written end: each but the last at the end of its page.
-use Rattle.std.proofs.Common.{◌≡◌, ◌≤◌, ◌<◌, ◌+◌, ◌-◌, ◌*◌, ◌/◌, ◌%◌, ◌⊎◌, inl, inr, ℕ, zero, suc, Bool, true, false, List, length, min, slice_range, nat_le, nat_lt, arith, refl, sym, ap, ◌∙◌}
+use Rattle.std.proofs.Common.{◌≡◌, ◌≤◌, ◌<◌, ◌+◌, ◌-◌, ◌*◌, ◌/◌, ◌%◌, ◌⊎◌, inl, inr, ℕ, zero, suc, Bool, true, false, List, length, min}
+use Rattle.std.proofs.Common.{slice_range, nat_le, nat_lt, arith, refl, sym, ap, ◌∙◌}
 use Rattle.std.proofs.lemmas.Bool.Decides.{nat_tests}
 use Rattle.std.proofs.lemmas.Nat.{div_below, le-div, div-mul-add, mod-mul-add}
 use Rattle.std.proofs.Math.Nat.{div-mul-le_self, lt-div-mul-add, mul-le-mul_right}
@@ -21,10 +22,12 @@ whole-rest x n pos = grind arith
 rest-low : (x n : ℕ) → 0 < n → x % n < n
 rest-low x n pos = grind arith
 
-module _ {block at : ℕ} {from : List ℕ} {done next page inside : ℕ} {piece : List ℕ} (pos : 0 < block) (is : IsPiece block at from done next page inside piece) where
+module _ {block at : ℕ} {from : List ℕ} {done next page inside : ℕ} {piece : List ℕ} (pos : 0 < block)
+    (is : IsPiece block at from done next page inside piece) where
   -- where the piece lies
   pub piece-starts : page * block + inside ≡ at + done
-  piece-starts = ap (λ q. q * block + inside) is.page_is ∙ (ap (λ q. (at + done) / block * block + q) is.inside_is ∙ whole-rest (at + done) block pos)
+  piece-starts = ap (λ q. q * block + inside) is.page_is
+      ∙ (ap (λ q. (at + done) / block * block + q) is.inside_is ∙ whole-rest (at + done) block pos)
 
   pub piece-inside : inside < block
   piece-inside = omega (arith, is.inside_is, rest-low (at + done) block pos)
@@ -46,8 +49,10 @@ module _ {block at : ℕ} {from : List ℕ} {done next page inside : ℕ} {piece
   piece-full = by (nat_le (block - inside) (length from - done)) refl
     where
       by : (t : Bool) → nat_le (block - inside) (length from - done) ≡ t → (at + next ≡ page * block + block) ⊎ (next ≡ length from)
-      by true e = (let low : block - inside ≤ length from - done = grind (nat_tests, arith) in inl (omega (arith, low, is.next_is, piece-starts, piece-inside)))
-      by false e = (let high : length from - done < block - inside = grind (nat_tests, arith) in inr (omega (arith, high, is.next_is, is.some)))
+      by true e = (let low : block - inside ≤ length from - done = grind (nat_tests, arith) in inl
+          (omega (arith, low, is.next_is, piece-starts, piece-inside)))
+      by false e = (let high : length from - done < block - inside = grind (nat_tests, arith) in inr
+          (omega (arith, high, is.next_is, is.some)))
 
 -- ---- so many pages done
 
@@ -100,7 +105,8 @@ module _ (block at : ℕ) (pos : 0 < block) where
   pub reached-low : (count k done : ℕ) → IsReached block at count k done → done < count → k < page_count block at count
   reached-low count k done reached low =
       let page : (at + done) / block ≡ at / block + k = reached-page count k done reached low in
-      let last : (at + done) / block ≤ (at + count - 1) / block = le-div ((at + done) / block) (at + count - 1) block pos (omega (arith, div-mul-le_self (at + done) block, low)) in
+      let last : (at + done) / block ≤ (at + count - 1) / block = le-div ((at + done) / block) (at + count - 1) block pos
+      (omega (arith, div-mul-le_self (at + done) block, low)) in
       omega (arith, page, last)
 
   -- so many bytes end at a page's end, or are all or none
@@ -125,26 +131,35 @@ module _ (block at : ℕ) (pos : 0 < block) where
       by false e = (let high : count ≤ done = grind (nat_tests, arith) in omega (arith, high, reached.is))
 
   -- so many bytes lie in as many pages as are done
-  pub reached-count : (count k done : ℕ) → IsReached block at count (suc k) done → suc k ≤ page_count block at count → 0 < count → page_count block at done ≡ suc k
+  pub reached-count : (count k done : ℕ) → IsReached block at count (suc k) done → suc k ≤ page_count block at count → 0 < count
+      → page_count block at done ≡ suc k
   reached-count count k done reached low some =
       let first : ℕ = at / block in
       let one : (first + suc k) * block ≡ (first + k) * block + block = grind arith in
       let over : first * block ≤ (first + k) * block = mul-le-mul_right block (omega arith) in
       let ends : at < (first + suc k) * block = omega (arith, one, over, first-high) in
-      let fits : (first + k) * block ≤ at + count - 1 = (let rows : (first + k) * block ≤ (at + count - 1) / block * block = mul-le-mul_right block (omega (arith, low, first-count count some)) in omega (arith, rows, div-mul-le_self (at + count - 1) block)) in
-      let least : first + k ≤ (at + done - 1) / block = le-div (first + k) (at + done - 1) block pos (omega (arith, reached.is, ends, one, fits, pos)) in
-      let most : (at + done - 1) / block < first + suc k = div_below (at + done - 1) block (first + suc k) pos (omega (arith, reached.is, ends, some)) in
+      let fits : (first + k) * block ≤ at + count - 1 =
+      (let rows : (first + k) * block ≤ (at + count - 1) / block * block = mul-le-mul_right block
+      (omega (arith, low, first-count count some)) in omega (arith, rows, div-mul-le_self (at + count - 1) block)) in
+      let least : first + k ≤ (at + done - 1) / block = le-div (first + k) (at + done - 1) block pos
+      (omega (arith, reached.is, ends, one, fits, pos)) in
+      let most : (at + done - 1) / block < first + suc k = div_below (at + done - 1) block (first + suc k) pos
+      (omega (arith, reached.is, ends, some)) in
       omega (arith, least, most)
 
   -- the pages of the range are pages that a file may have
-  pub range-pages : (g : Geometry) (count : ℕ) → g.block_size ≡ block → 0 < count → at + count ≤ greatest_size g → (k : ℕ) → k < page_count block at count → IsPage g (at / block + k)
+  pub range-pages : (g : Geometry) (count : ℕ) → g.block_size ≡ block → 0 < count → at + count ≤ greatest_size g → (k : ℕ)
+      → k < page_count block at count → IsPage g (at / block + k)
   range-pages g count size some limit k low =
-      let rows : (at / block + k) * block ≤ (at + count - 1) / block * block = mul-le-mul_right block (omega (arith, low, first-count count some)) in
+      let rows : (at / block + k) * block ≤ (at + count - 1) / block * block = mul-le-mul_right block
+      (omega (arith, low, first-count count some)) in
       let bytes : (at / block + k) * g.block_size ≡ (at / block + k) * block = ap (λ q. (at / block + k) * q) size in
       omega (arith, bytes, rows, div-mul-le_self (at + count - 1) block, limit, some)
 
   -- one page more
-  pub reached-next : (from : List ℕ) (done next page inside : ℕ) (piece : List ℕ) (k : ℕ) → IsPiece block at from done next page inside piece → IsReached block at (length from) k done → IsReached block at (length from) (k + 1) next
+  pub reached-next : (from : List ℕ) (done next page inside : ℕ) (piece : List ℕ) (k : ℕ)
+      → IsPiece block at from done next page inside piece → IsReached block at (length from) k done
+      → IsReached block at (length from) (k + 1) next
   reached-next from done next page inside piece k part reached =
       record { is = by (piece-full pos part) }
     where
@@ -152,7 +167,8 @@ module _ (block at : ℕ) (pos : 0 < block) where
       same = part.page_is ∙ reached-page (length from) k done reached part.some
 
       rows : (at / block + (k + 1)) * block ≡ page * block + block
-      rows = (let more : (at / block + (k + 1)) * block ≡ (at / block + k) * block + block = grind arith in more ∙ ap (λ q. q * block + block) (sym same))
+      rows = (let more : (at / block + (k + 1)) * block ≡ (at / block + k) * block + block = grind arith in more
+          ∙ ap (λ q. q * block + block) (sym same))
 
       by : (at + next ≡ page * block + block) ⊎ (next ≡ length from) → next ≡ min (length from) ((at / block + (k + 1)) * block - at)
       by (inl whole) = omega (arith, whole, rows, piece-fits pos part)

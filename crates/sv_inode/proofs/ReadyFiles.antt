@@ -1,5 +1,6 @@
 -- Files that writes are tried on.
-use Rattle.std.proofs.Common.{◌≡◌, ◌≤◌, ◌<◌, ◌*◌, ◌/◌, ℕ, Bool, true, false, List, length, Result, Ok, OnOk, IsSome, nat_lt, refl, sym, ap, ◌∙◌, subst, arith}
+use Rattle.std.proofs.Common.{◌≡◌, ◌≤◌, ◌<◌, ◌*◌, ◌/◌, ℕ, Bool, true, false, List, length, Result, Ok, OnOk, IsSome, nat_lt, refl, sym}
+use Rattle.std.proofs.Common.{ap, ◌∙◌, subst, arith}
 use Rattle.std.specs.FinMap as fmap
 use Rattle.std.specs.List.{range_with_len}
 use Rattle.std.proofs.lemmas.Bool.Decides.{nat_tests}
@@ -31,7 +32,8 @@ when-ok {T} {E} {P} {x} r e p = let Q : Result T E → Type 0 = λ q. OnOk q P i
 -- no page of a range is counted with more than four blocks
 four-each : (g : Geometry) (h : Held) (a : List ℕ) (first page : ℕ) → need_at g h a first page ≤ 4
 unfolding need_at
-four-each g h a first page = omega (arith, count_by-le-length (counts_at first page) (way g h a (path (block_numbers g) page)), short (path (block_numbers g) page))
+four-each g h a first page =
+    omega (arith, count_by-le-length (counts_at first page) (way g h a (path (block_numbers g) page)), short (path (block_numbers g) page))
   where
     short : (p : PagePath) → length (way g h a p) ≤ 4
     short (Direct i) = omega arith
@@ -42,12 +44,23 @@ four-each g h a first page = omega (arith, count_by-le-length (counts_at first p
 need-most : (g : Geometry) (h : Held) (a : List ℕ) (first count : ℕ) → need_of g h a first count ≤ count * 4
 unfolding need_of
 need-most g h a first count =
-    omega (arith, sum_by-le (need_at g h a first) 4 (range_with_len first count) (λ i d low. four-each g h a first _), length-range_with_len first count)
+    omega (
+      arith,
+      sum_by-le (need_at g h a first) 4 (range_with_len first count)
+          (λ i d low. four-each g h a first _),
+      length-range_with_len first count,
+    )
 
 -- twelve pages need at most 48 blocks
 pub twelve-pages : (g : Geometry) (h : Held) (a : List ℕ) (count : ℕ) → g ≡ sample_sizes → count ≤ 12288 → write_need g h a 0 count ≤ 48
 twelve-pages g h a count e low =
-    omega (arith, need-most g h a (0 / g.block_size) (length (touched g.block_size 0 count)), ap (λ q. length (touched q.block_size 0 count)) e, few (nat_lt 0 count) refl)
+    omega (
+      arith,
+      need-most g h a (0 / g.block_size) (length (touched g.block_size 0 count)),
+      ap
+          (λ q. length (touched q.block_size 0 count)) e,
+      few (nat_lt 0 count) refl,
+    )
   where
     some : (n : ℕ) → nat_lt 0 n ≡ true → 0 < n
     some n q = grind (nat_tests, arith)
@@ -57,15 +70,20 @@ twelve-pages g h a count e low =
 
     few : (t : Bool) → nat_lt 0 count ≡ t → length (touched 1024 0 count) ≤ 12
     few true q = omega (arith, touched-length 1024 0 count (some count q), low)
-    few false q = (let nothing : length (touched 1024 0 count) ≡ 0 = ap (λ z. length (touched 1024 0 z)) (none count q) in omega (arith, nothing))
+    few false q = (let nothing : length (touched 1024 0 count) ≡ 0 = ap (λ z. length (touched 1024 0 z)) (none count q) in omega
+        (arith, nothing))
 
 -- a file without bytes, beside a core
-pub ready-after : {p o : Origin} {k h : Held} {m : Lent} {n number : ℕ} {body : InodeBody} → IsSource p k o h m n → IsSome (h 2 2) → number ≡ 3 → body.size ≡ 0 → body.addresses ≡ thirteen → IsReady o h m number body p k
+pub ready-after : {p o : Origin} {k h : Held} {m : Lent} {n number : ℕ} {body : InodeBody} → IsSource p k o h m n → IsSome (h 2 2)
+    → number ≡ 3 → body.size ≡ 0 → body.addresses ≡ thirteen → IsReady o h m number body p k
 ready-after {p} {o} {k} {h} {m} {n} {number} {body} source line e size addresses = record {
   node = node;
   stands = (let P : InodeBody → Type 0 = λ q. StandsFor o h q node in
-      let same : record body { size = 0; addresses = thirteen } ≡ body = sym (ap (λ q. record body { size = q; addresses = body.addresses }) size ∙ ap (λ q. record body { size = 0; addresses = q }) addresses) in
-      subst P same (empty-stands o h (record body { size = 0; addresses = thirteen }) node (record { kind = refl; mode = refl; links = refl; size = refl })));
+      let same : record body { size = 0; addresses = thirteen } ≡ body =
+      sym (ap (λ q. record body { size = q; addresses = body.addresses }) size
+      ∙ ap (λ q. record body { size = 0; addresses = q }) addresses) in
+      subst P same (empty-stands o h (record body { size = 0; addresses = thirteen }) node
+      (record { kind = refl; mode = refl; links = refl; size = refl })));
   inode = (let P : ℕ → Type 0 = HoldsInode o h in subst P (sym e) (record { number = (at o.sizes sizes).0; line = (at o.sizes sizes).1 }));
   lent = source.lent;
   apart = source.apart;

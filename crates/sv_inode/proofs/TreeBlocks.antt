@@ -1,5 +1,6 @@
 -- The blocks of an address tree as a list: each block of the tree stands in it once, and nothing else does.
-use Rattle.std.proofs.Common.{◌≡◌, ◌≢◌, ◌≤◌, ◌<◌, ◌+◌, ◌-◌, ◌++◌, ◌==◌, ℕ, zero, suc, Bool, true, false, cond, List, [], ◌∷◌, length, get_or, nat_lt, ap, refl, sym, ◌∙◌, subst, arith}
+use Rattle.std.proofs.Common.{◌≡◌, ◌≢◌, ◌≤◌, ◌<◌, ◌+◌, ◌-◌, ◌++◌, ◌==◌, ℕ, zero, suc, Bool, true, false, cond, List, [], ◌∷◌, length}
+use Rattle.std.proofs.Common.{get_or, nat_lt, ap, refl, sym, ◌∙◌, subst, arith}
 use Rattle.std.specs.List.{flat_map, range_with_len}
 use Rattle.std.proofs.lemmas.Bool.{eqb-true}
 use Rattle.std.proofs.lemmas.Bool.Decides.{nat_tests}
@@ -40,9 +41,12 @@ sum-once : (n : ℕ) (f : ℕ → ℕ) → ((k : ℕ) → k < n → f k ≤ 1) �
 unfolding sum_below
 sum-once zero f each same = omega arith
 sum-once (suc n) f each same =
-    by (nat_lt 0 (f n)) refl (nat_lt 0 (sum_below n f)) refl (sum-once n f (λ k low. each k (omega (arith, low))) (λ k j low below. same k j (omega (arith, low)) (omega (arith, below)))) (sum-some n f)
+    by (nat_lt 0 (f n)) refl (nat_lt 0 (sum_below n f)) refl
+    (sum-once n f (λ k low. each k (omega (arith, low))) (λ k j low below. same k j (omega (arith, low)) (omega (arith, below))))
+    (sum-some n f)
   where
-    by : (t : Bool) → nat_lt 0 (f n) ≡ t → (u : Bool) → nat_lt 0 (sum_below n f) ≡ u → sum_below n f ≤ 1 → (0 < sum_below n f → (k : ℕ) × ((k < n) × (0 < f k))) → sum_below n f + f n ≤ 1
+    by : (t : Bool) → nat_lt 0 (f n) ≡ t → (u : Bool) → nat_lt 0 (sum_below n f) ≡ u → sum_below n f ≤ 1
+        → (0 < sum_below n f → (k : ℕ) × ((k < n) × (0 < f k))) → sum_below n f + f n ≤ 1
     by false e u d few_of more = omega (arith, few_of, is-none (f n) e)
     by true e false d few_of more = omega (arith, is-none (sum_below n f) d, each n (omega arith))
     by true e true d few_of more =
@@ -64,7 +68,9 @@ flat-sum b f (suc n) =
     let e : suc n ≡ n + 1 = omega arith in
     let at : 0 + n ≡ n = omega arith in
     let more : flat_map f (range_with_len 0 (suc n)) ≡ flat_map f (range_with_len 0 n) ++ f n =
-    ap (λ q. flat_map f (range_with_len 0 q)) e ∙ (ap (flat_map f) (range_more 0 n) ∙ (ap (λ q. flat_map f (range_with_len 0 n ++ q ∷ [])) at ∙ sym (flat_map_more f [] (range_with_len 0 n) n))) in
+    ap (λ q. flat_map f (range_with_len 0 q)) e
+    ∙ (ap (flat_map f) (range_more 0 n)
+    ∙ (ap (λ q. flat_map f (range_with_len 0 n ++ q ∷ [])) at ∙ sym (flat_map_more f [] (range_with_len 0 n) n))) in
     let rest = flat-sum b f n in
     ap (times b) more
     ∙ (times-append b (flat_map f (range_with_len 0 n)) (f n)
@@ -94,10 +100,12 @@ IsBelow n h d r b = (ks : List ℕ) × (IsWay n d ks × ((down h r ks ≡ b) × 
 times-one : (b x : ℕ) → times b (x ∷ []) ≡ one_if (x == b)
 times-one b x = times-cons b x [] ∙ (ap (λ q. one_if (x == b) + q) (times-nil b) ∙ omega arith)
 
-times-below : (n : ℕ) (h : Held) (d r b : ℕ) → r ≢ 0 → times b (blocks_below n h (suc d) r) ≡ sum_below n (λ k. times b (blocks_below n h d (child h r k))) + one_if (r == b)
+times-below : (n : ℕ) (h : Held) (d r b : ℕ) → r ≢ 0
+    → times b (blocks_below n h (suc d) r) ≡ sum_below n (λ k. times b (blocks_below n h d (child h r k))) + one_if (r == b)
 times-below n h d r b some =
     ap (times b) (below-there n h d r some)
-    ∙ (times-snoc b r (flat_map (λ k. blocks_below n h d (child h r k)) (range_with_len 0 n)) ∙ ap (λ q. q + one_if (r == b)) (flat-sum b (λ k. blocks_below n h d (child h r k)) n))
+    ∙ (times-snoc b r (flat_map (λ k. blocks_below n h d (child h r k)) (range_with_len 0 n))
+    ∙ ap (λ q. q + one_if (r == b)) (flat-sum b (λ k. blocks_below n h d (child h r k)) n))
 
 times-hole : (n : ℕ) (h : Held) (d r b : ℕ) → r ≡ 0 → times b (blocks_below n h (suc d) r) ≡ 0
 times-hole n h d r b e = ap (times b) (below-hole n h d r e) ∙ times-nil b
@@ -115,11 +123,13 @@ below-some n h zero r b is = by (r == 0) refl (r == b) refl
     by false e true d = ([], (no-way n 0, (eqb-true r b d, λ q. apart r 0 e (eqb-true r b d ∙ q))))
 below-some n h (suc d) r b is = by (r == 0) refl (r == b) refl (λ k. below-some n h d (child h r k) b)
   where
-    by : (t : Bool) → (r == 0) ≡ t → (u : Bool) → (r == b) ≡ u → ((k : ℕ) → 0 < times b (blocks_below n h d (child h r k)) → IsBelow n h d (child h r k) b) → IsBelow n h (suc d) r b
+    by : (t : Bool) → (r == 0) ≡ t → (u : Bool) → (r == b) ≡ u
+        → ((k : ℕ) → 0 < times b (blocks_below n h d (child h r k)) → IsBelow n h d (child h r k) b) → IsBelow n h (suc d) r b
     by true e u q rest = absurd (omega (arith, is, times-hole n h d r b (eqb-true r 0 e)))
     by false e true q rest = ([], (no-way n (suc d), (eqb-true r b q, λ z. apart r 0 e (eqb-true r b q ∙ z))))
     by false e false q rest =
-        (let all : times b (blocks_below n h (suc d) r) ≡ sum_below n (λ k. times b (blocks_below n h d (child h r k))) + 0 = times-below n h d r b (apart r 0 e) ∙ ap (λ z. sum_below n (λ k. times b (blocks_below n h d (child h r k))) + one_if z) q in
+        (let all : times b (blocks_below n h (suc d) r) ≡ sum_below n (λ k. times b (blocks_below n h d (child h r k))) + 0 =
+        times-below n h d r b (apart r 0 e) ∙ ap (λ z. sum_below n (λ k. times b (blocks_below n h d (child h r k))) + one_if z) q in
         let at = sum-some n (λ k. times b (blocks_below n h d (child h r k))) (omega (arith, is, all)) in
         let one = rest at.0 at.1.1 in
         (at.0 ∷ one.0, (way-cons n d at.0 one.0 at.1.0 one.1.0, (one.1.1.0, one.1.1.1))))
@@ -139,7 +149,8 @@ below-once n h (suc d) r b once = by (r == 0) refl (r == b) refl (λ k. below-on
     g : ℕ → ℕ
     g k = times b (blocks_below n h d (child h r k))
 
-    by : (t : Bool) → (r == 0) ≡ t → (u : Bool) → (r == b) ≡ u → ((k : ℕ) → IsOnce n h d (child h r k) → times b (blocks_below n h d (child h r k)) ≤ 1) → times b (blocks_below n h (suc d) r) ≤ 1
+    by : (t : Bool) → (r == 0) ≡ t → (u : Bool) → (r == b) ≡ u
+        → ((k : ℕ) → IsOnce n h d (child h r k) → times b (blocks_below n h d (child h r k)) ≤ 1) → times b (blocks_below n h (suc d) r) ≤ 1
     by true e u q rest = omega (arith, times-hole n h d r b (eqb-true r 0 e))
     by false e u q rest = finish u q
       where
@@ -149,7 +160,8 @@ below-once n h (suc d) r b once = by (r == 0) refl (r == b) refl (λ k. below-on
         each : (k : ℕ) → k < n → g k ≤ 1
         each k low =
             rest k
-            (λ ks js way other some same. ap (λ z. drop_first z) (once (k ∷ ks) (k ∷ js) (way-cons n d k ks low way) (way-cons n d k js low other) some same))
+            (λ ks js way other some same. ap (λ z. drop_first z)
+            (once (k ∷ ks) (k ∷ js) (way-cons n d k ks low way) (way-cons n d k js low other) some same))
           where
             drop_first : List ℕ → List ℕ
             drop_first [] = []
@@ -159,7 +171,9 @@ below-once n h (suc d) r b once = by (r == 0) refl (r == b) refl (λ k. below-on
         same_place k j low below one two =
             (let p = below-some n h d (child h r k) b one in
             let s = below-some n h d (child h r j) b two in
-            ap (λ z. get_or z 0 0) (once (k ∷ p.0) (j ∷ s.0) (way-cons n d k p.0 low p.1.0) (way-cons n d j s.0 below s.1.0) (λ z. p.1.1.1 (sym p.1.1.0 ∙ z)) (p.1.1.0 ∙ sym s.1.1.0)))
+            ap (λ z. get_or z 0 0)
+            (once (k ∷ p.0) (j ∷ s.0) (way-cons n d k p.0 low p.1.0) (way-cons n d j s.0 below s.1.0) (λ z. p.1.1.1 (sym p.1.1.0 ∙ z))
+            (p.1.1.0 ∙ sym s.1.1.0)))
 
         finish : (u : Bool) → (r == b) ≡ u → times b (blocks_below n h (suc d) r) ≤ 1
         finish false z = omega (arith, all, ap one_if z, sum-once n g each same_place)
@@ -170,7 +184,8 @@ below-once n h (suc d) r b once = by (r == 0) refl (r == b) refl (λ k. below-on
             none true w =
                 (let at = sum-some n g (is-more (sum_below n g) w) in
                 let p = below-some n h d (child h r at.0) b at.1.1 in
-                let clash : at.0 ∷ p.0 ≡ [] = once (at.0 ∷ p.0) [] (way-cons n d at.0 p.0 at.1.0 p.1.0) (no-way n (suc d)) (λ y. p.1.1.1 (sym p.1.1.0 ∙ y)) (p.1.1.0 ∙ sym (eqb-true r b z)) in
+                let clash : at.0 ∷ p.0 ≡ [] = once (at.0 ∷ p.0) [] (way-cons n d at.0 p.0 at.1.0 p.1.0) (no-way n (suc d))
+                (λ y. p.1.1.1 (sym p.1.1.0 ∙ y)) (p.1.1.0 ∙ sym (eqb-true r b z)) in
                 absurd (omega (arith, ap length clash)))
 
 -- ---- the whole tree
@@ -184,7 +199,9 @@ unfolding sum_below
 blocks-sum g h a b =
     times-append b (pages ++ one ++ two) three
     ∙ (ap (λ q. q + times b three) (times-append b (pages ++ one) two)
-    ∙ (ap (λ q. q + times b two + times b three) (times-append b pages one) ∙ ap (λ q. q + times b one + times b two + times b three) (flat-sum b (λ slot. blocks_below (block_numbers g) h 0 (get_or a slot 0)) 10)))
+    ∙ (ap (λ q. q + times b two + times b three) (times-append b pages one)
+    ∙ ap (λ q. q + times b one + times b two + times b three)
+    (flat-sum b (λ slot. blocks_below (block_numbers g) h 0 (get_or a slot 0)) 10)))
   where
     pages : List ℕ
     pages = flat_map (λ slot. blocks_below (block_numbers g) h 0 (get_or a slot 0)) (range_with_len 0 10)
@@ -202,7 +219,8 @@ way-spot : (n slot : ℕ) (ks : List ℕ) → slot < 13 → IsWay n (slot - 9) k
 way-spot n slot ks low way = record { among = low; deep = way.deep; places = way.places }
 
 -- a block of the list stands at a spot of the tree
-tree-some : (g : Geometry) (h : Held) (a : List ℕ) (b : ℕ) → 0 < times b (blocks_of g h a) → (slot : ℕ) × ((ks : List ℕ) × (IsSpot (block_numbers g) slot ks × ((block_at h a slot ks ≡ b) × (b ≢ 0))))
+tree-some : (g : Geometry) (h : Held) (a : List ℕ) (b : ℕ) → 0 < times b (blocks_of g h a)
+    → (slot : ℕ) × ((ks : List ℕ) × (IsSpot (block_numbers g) slot ks × ((block_at h a slot ks ≡ b) × (b ≢ 0))))
 tree-some g h a b is =
     let at = sum-some 13 (below_slot (block_numbers g) h a b) (omega (arith, is, blocks-sum g h a b)) in
     let one = below-some (block_numbers g) h (at.0 - 9) (get_or a at.0 0) b at.1.1 in
@@ -217,13 +235,15 @@ tree-once {o} {h} {a} tree b =
 
     each : (slot : ℕ) → slot < 13 → below_slot n h a b slot ≤ 1
     each slot low =
-        below-once n h (slot - 9) (get_or a slot 0) b (λ ks js way other some is. (tree.once slot ks slot js (way-spot n slot ks low way) (way-spot n slot js low other) some is).1)
+        below-once n h (slot - 9) (get_or a slot 0) b
+        (λ ks js way other some is. (tree.once slot ks slot js (way-spot n slot ks low way) (way-spot n slot js low other) some is).1)
 
     same : (slot other : ℕ) → slot < 13 → other < 13 → 0 < below_slot n h a b slot → 0 < below_slot n h a b other → slot ≡ other
     same slot other low below one two =
         (let p = below-some n h (slot - 9) (get_or a slot 0) b one in
         let s = below-some n h (other - 9) (get_or a other 0) b two in
-        (tree.once slot p.0 other s.0 (way-spot n slot p.0 low p.1.0) (way-spot n other s.0 below s.1.0) (λ z. p.1.1.1 (sym p.1.1.0 ∙ z)) (p.1.1.0 ∙ sym s.1.1.0)).0)
+        (tree.once slot p.0 other s.0 (way-spot n slot p.0 low p.1.0) (way-spot n other s.0 below s.1.0) (λ z. p.1.1.1 (sym p.1.1.0 ∙ z))
+        (p.1.1.0 ∙ sym s.1.1.0)).0)
 
 alike : (x y : ℕ) → x ≡ y → (x == y) ≡ true
 alike x y h = grind (nat_tests, arith)
@@ -285,4 +305,9 @@ tree-blocks {o} {h} {a} tree data_blocks = record {
 -- there are no more of them than the disk has
 pub few-blocks : {o : Origin} {h : Held} (xs : List ℕ) → AreBlocks o h xs → IsGeometry o.sizes → length xs ≤ 65536
 few-blocks {o} xs all sizes =
-    omega (arith, few o.sizes.blocks xs [] (λ b is. (all.in_data b (omega (arith, is, times-nil b))).most) (λ b. omega (arith, all.once b, times-nil b)), sizes.most_blocks)
+    omega (
+      arith,
+      few o.sizes.blocks xs [] (λ b is. (all.in_data b (omega (arith, is, times-nil b))).most)
+          (λ b. omega (arith, all.once b, times-nil b)),
+      sizes.most_blocks,
+    )

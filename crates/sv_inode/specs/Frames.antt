@@ -1,9 +1,14 @@
 -- What calls on an inode and on a core leave as it was: words that say in one clause what stays.
-use Rattle.std.specs.Prelude.{◌≡◌, ◌≤◌, ◌<◌, ◌+◌, ℕ, Bool, IsSome, max}
-use Rattle.sv_dev.specs.Causes.{counted}
+use Rattle.std.specs.Prelude.{◌≡◌, ◌≤◌, ◌<◌, ◌+◌, ◌⊎◌, ℕ, Bool, IsSome, max}
+use Rattle.sv_dev.specs.Causes.{counted, last_count}
 use Rattle.sv_form.specs.declared.inode.InodeBody.{InodeBody}
 use Rattle.sv_store.specs.Held.{Held, Lent, Origin, nothing_lent}
 use Rattle.sv_super.specs.Core.{Core}
+
+-- A count of faults rose, or stands at its end. A core does not say that its stake's count is at most the last value; where
+-- that is known, this is `Rose`.
+abbrev pub HasRisen : ℕ → ℕ → Type 0
+HasRisen before now = (before < now) ⊎ (last_count ≤ now)
 
 -- Nothing is lent, the stake is forced as it was and from where it was, and its count of faults did not fall.
 pub record KeepsStake {S : Type 0} (lent : S → Lent) (origin : S → Origin) (forced : S → Bool) (faults : S → ℕ) (old new : S) : Type 0 where

@@ -2,7 +2,6 @@
 use Rattle.std.specs.Prelude.{◌≡◌, ◌≤◌, ◌<◌, ◌+◌, ◌++◌, ◌⊎◌, ◌≢◌, ℕ, Bool, false, List, length, map, max, None, IsSome, nat_lt}
 use Rattle.std.specs.Prelude.{if◌then◌else◌}
 use Rattle.std.specs.List.{All}
-use Rattle.sv_dev.specs.Causes.{last_count}
 use Rattle.sv_form.specs.Geometry.{IsDataBlock, IsNumber, inode_place}
 use Rattle.sv_form.specs.PagePath.{block_numbers}
 use Rattle.sv_form.specs.declared.geometry.Geometry.{Geometry}
@@ -10,6 +9,7 @@ use Rattle.sv_store.specs.Held.{Apart, Both, Held, Lent, Origin, HoldsBlock, Sam
 use Rattle.sv_super.specs.Core.{Core, alone}
 use Rattle.sv_super.specs.Count.{times}
 use Rattle.sv_bmap.specs.Tree.{IsSpot, block_at}
+use Rattle.sv_inode.specs.Frames.{HasRisen}
 
 -- the lines of these blocks alone, and those of all others
 unfoldable pub only : List ℕ → Held → Held
@@ -94,7 +94,7 @@ pub record FreesAll {S : Type 0} (before now : ℕ) (old new : Core S) (blocks :
   pub aside : new.aside ≡ old.aside ++ kept
   pub each : (b : ℕ) → times b chained + times b kept ≡ times b blocks
   pub count : length chained + length kept ≡ length blocks
-  pub rose : 0 < length kept → (before < now) ⊎ (last_count ≤ now)
+  pub rose : 0 < length kept → HasRisen before now
 
 -- The blocks of a file go to the core: they are free, and their lines, which the file's stake held, are with the core; no
 -- line of another block has changed there.

@@ -4,7 +4,6 @@ use Rattle.std.specs.Prelude.{length, take, drop, replicate, get_or, vec_capacit
 use Rattle.std.specs.Global.{Vec}
 use Rattle.std.specs.List.{All}
 use Rattle.std.specs.FinMap as fmap
-use Rattle.sv_dev.specs.Causes.{last_count}
 use Rattle.sv_form.specs.Node.{Node}
 use Rattle.sv_form.specs.NodeChanges.{touched}
 use Rattle.sv_form.specs.PagePath.{IsPage}
@@ -17,6 +16,7 @@ use Rattle.sv_super.specs.Core.{Core, free_times, left_of, less}
 use Rattle.sv_super.specs.Count.{times}
 use Rattle.sv_bmap.specs.Need.{need_of}
 use Rattle.sv_bmap.specs.Tree.{page_block}
+pub use Rattle.sv_inode.specs.Frames.{HasRisen}
 use Rattle.sv_inode.specs.Truncate.{AreBlocks, CanFreeAll, IsCut, IsCutFrom, IsPart, less_all, names_of, only}
 use Rattle.sv_inode.specs.declared.stop.WriteStop.{WriteStop}
 use Rattle.sv_inode.specs.declared.stop.WriteStop.TheVariants.{Short, NoMemory}
@@ -30,10 +30,6 @@ abbrev pub done_by : {T : Type 0} → ℕ → Result T WriteStop → ℕ
 done_by all (Ok x) = all
 done_by all (Err (Short done)) = done
 done_by all (Err (NoMemory done)) = done
-
--- a count of faults rose, or stands at its end
-abbrev pub HasRisen : ℕ → ℕ → Type 0
-HasRisen before now = (before < now) ⊎ (last_count ≤ now)
 
 -- a write that begins at `at` has stopped at the begin of a page, or at once
 abbrev pub IsPageEnd : ℕ → ℕ → ℕ → Type 0

@@ -106,7 +106,8 @@ pub(crate) fn empty_core<S: Stake>(
     requires row { (l : ℕ) → l < 16 → S.held source.old 60 l ≡ Some (line_of (set (replicate 1024 0) 0 61) l) }
     requires lent { S.lent source.old ≡ nothing_lent }
     requires sizes { (S.origin source.old).sizes ≡ sample_sizes }
-    ensures source { IfOk result (λ made. IfOk made (λ core. IsSource (S.origin core.stake) (S.held core.stake) (S.origin source.new) (S.held source.new) (S.lent source.new) 64)) }
+    ensures source { IfOk result (λ made. IfOk made
+        (λ core. IsSource (S.origin core.stake) (S.held core.stake) (S.origin source.new) (S.held source.new) (S.lent source.new) 64)) }
     ensures line { OnOk result (IsSome (S.held source.new 2 2)) }
     ensures row { OnOk result ((l : ℕ) → l < 16 → S.held source.new 60 l ≡ Some (line_of (set (replicate 1024 0) 0 61) l)) }
 {
@@ -142,7 +143,8 @@ fn truncated<R: Wait, S: Stake + Drop>(
     inode: &mut LockedInode<S>,
     core: &mut SuperCore<S>,
 ) -> (Result<(), Refusal>, u32, u32, Option<u32>)
-    requires source { IsSource (S.origin core.old.stake) (S.held core.old.stake) (S.origin inode.old.stake) (S.held inode.old.stake) (S.lent inode.old.stake) 64 }
+    requires source { IsSource (S.origin core.old.stake) (S.held core.old.stake) (S.origin inode.old.stake) (S.held inode.old.stake)
+        (S.lent inode.old.stake) 64 }
     requires number { inode.old.number ≡ 3 }
     requires line { IsSome (S.held inode.old.stake 2 2) }
     requires row { (l : ℕ) → l < 16 → S.held inode.old.stake 60 l ≡ Some (line_of (set (replicate 1024 0) 0 61) l) }

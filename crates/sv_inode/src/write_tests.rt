@@ -41,11 +41,13 @@ fn free_one<R: Wait, S: Stake>(
     source: &mut S,
     b: u32,
 ) -> Result<(), Refusal>
-    requires source { IsSource (S.origin core.old.stake) (S.held core.old.stake) (S.origin source.old) (S.held source.old) (S.lent source.old) (b + 1) }
+    requires source { IsSource (S.origin core.old.stake) (S.held core.old.stake) (S.origin source.old) (S.held source.old)
+        (S.lent source.old) (b + 1) }
     requires spare { 1 ≤ core.old.spare }
     requires in_data { 4 ≤ b }
     requires line { IsSome (S.held source.old 2 2) }
-    ensures source { OnOk result (IsSource (S.origin core.new.stake) (S.held core.new.stake) (S.origin source.new) (S.held source.new) (S.lent source.new) b) }
+    ensures source { OnOk result (IsSource (S.origin core.new.stake) (S.held core.new.stake) (S.origin source.new) (S.held source.new)
+        (S.lent source.new) b) }
     ensures spare { OnOk result (core.new.spare + 1 ≡ core.old.spare) }
     ensures line { OnOk result (IsSome (S.held source.new 2 2)) }
 {
@@ -67,9 +69,11 @@ fn free_each<R: Wait, S: Stake>(
     core: &mut SuperCore<S>,
     source: &mut S,
 ) -> Result<(), Refusal>
-    requires source { IsSource (S.origin core.old.stake) (S.held core.old.stake) (S.origin source.old) (S.held source.old) (S.lent source.old) 64 }
+    requires source { IsSource (S.origin core.old.stake) (S.held core.old.stake) (S.origin source.old) (S.held source.old)
+        (S.lent source.old) 64 }
     requires line { IsSome (S.held source.old 2 2) }
-    ensures source { OnOk result (IsSource (S.origin core.new.stake) (S.held core.new.stake) (S.origin source.new) (S.held source.new) (S.lent source.new) 5) }
+    ensures source { OnOk result (IsSource (S.origin core.new.stake) (S.held core.new.stake) (S.origin source.new) (S.held source.new)
+        (S.lent source.new) 5) }
     ensures line { OnOk result (IsSome (S.held source.new 2 2)) }
 {
     core.room(FREE)?;
@@ -90,8 +94,10 @@ fn write<R: Wait, S: Stake>(
     core: &mut SuperCore<S>,
     bytes: &[u8],
 ) -> Option<Written>
-    requires ready { IsReady (S.origin inode.old.stake) (S.held inode.old.stake) (S.lent inode.old.stake) inode.old.number inode.old.body (S.origin core.old.stake) (S.held core.old.stake) }
-    ensures ready { IsReady (S.origin inode.new.stake) (S.held inode.new.stake) (S.lent inode.new.stake) inode.new.number inode.new.body (S.origin core.new.stake) (S.held core.new.stake) }
+    requires ready { IsReady (S.origin inode.old.stake) (S.held inode.old.stake) (S.lent inode.old.stake) inode.old.number inode.old.body
+        (S.origin core.old.stake) (S.held core.old.stake) }
+    ensures ready { IsReady (S.origin inode.new.stake) (S.held inode.new.stake) (S.lent inode.new.stake) inode.new.number inode.new.body
+        (S.origin core.new.stake) (S.held core.new.stake) }
 {
     if bytes.len() > MOST {
         return None;
@@ -121,7 +127,8 @@ fn two_writes<R: Wait, S: Stake>(
     first: &[u8],
     second: &[u8],
 ) -> Seen
-    requires ready { IsReady (S.origin inode.old.stake) (S.held inode.old.stake) (S.lent inode.old.stake) inode.old.number inode.old.body (S.origin core.old.stake) (S.held core.old.stake) }
+    requires ready { IsReady (S.origin inode.old.stake) (S.held inode.old.stake) (S.lent inode.old.stake) inode.old.number inode.old.body
+        (S.origin core.old.stake) (S.held core.old.stake) }
 {
     let first = write(rt, alloc, inode, core, first);
     let second = write(rt, alloc, inode, core, second);
@@ -147,7 +154,8 @@ fn once_freed<R: Wait, S: Stake>(
     first: &[u8],
     second: &[u8],
 ) -> Option<Seen>
-    requires source { OnOk freed (IsSource (S.origin core.old.stake) (S.held core.old.stake) (S.origin inode.old.stake) (S.held inode.old.stake) (S.lent inode.old.stake) 5) }
+    requires source { OnOk freed (IsSource (S.origin core.old.stake) (S.held core.old.stake) (S.origin inode.old.stake)
+        (S.held inode.old.stake) (S.lent inode.old.stake) 5) }
     requires line { OnOk freed (IsSome (S.held inode.old.stake 2 2)) }
     requires number { inode.old.number ≡ 3 }
     requires size { inode.old.body.size ≡ 0 }

@@ -14,7 +14,8 @@ pub merge_all-requires-clause-origin : goal.merge_all-requires-clause-origin
 merge_all-requires-clause-origin g c _ _ = home-kept c.build.ensures.parts c.build.ensures.origin c.requires.home
 
 pub returns-clause-ok : goal.returns-clause-ok
-returns-clause-ok g c = attached-parts c.geometry-sizes.result c.geometry-sizes.ensures.value c.geometry-sizes.ensures.sizes c.requires.page c.requires.tree c.requires.new c.build.ensures.parts c.in_default.ensures.ok c.merge_all.ensures.held
+returns-clause-ok g c = attached-parts c.geometry-sizes.result c.geometry-sizes.ensures.value c.geometry-sizes.ensures.sizes
+    c.requires.page c.requires.tree c.requires.new c.build.ensures.parts c.in_default.ensures.ok c.merge_all.ensures.held
 
 pub returns-clause-counts : goal.returns-clause-counts
 returns-clause-counts g c = counts-kept c.build.ensures.parts c.build.ensures.faults c.merge_all.ensures.faults

@@ -5,7 +5,8 @@ use Rattle.sv_bmap.proofs.grow.block_below.Goals as goal
 
 pub loop-place-preserved : goal.loop-place-preserved
 loop-place-preserved g c = record {
-  block = way-more c.args.top c.args.places.now c.loop-place.invariant.held c.loop-place.invariant.block c.loop-place-test.true refl c.in_ok-block.ensures.block;
+  block = way-more c.args.top c.args.places.now c.loop-place.invariant.held c.loop-place.invariant.block c.loop-place-test.true refl
+      c.in_ok-block.ensures.block;
   held = c.child_of.ensures.held ∙ c.loop-place.invariant.held;
   lends = c.child_of.ensures.lends;
   forced = c.child_of.ensures.forced ∙ c.loop-place.invariant.forced;

@@ -7,7 +7,8 @@ use Rattle.sv_bmap.proofs.grow.put_number.Goals as goal
 pub bdwrite-requires : goal.bdwrite-requires
 bdwrite-requires g c =
     CanPut-whole _ c.args.buf.bytes c.requires.block (lent-at nothing_lent c.requires.lent) c.requires.size
-    (ap length (refilled c.args.buf.bytes c.write_number32.new.bytes c.bytes_mut-bytes.result.now c.bytes_mut-bytes.ensures.now c.write_number32.ensures.others.len) ∙ (c.write_number32.ensures.others.len ∙ ap length c.bytes_mut-bytes.ensures.now))
+    (ap length (refilled c.args.buf.bytes c.write_number32.new.bytes c.bytes_mut-bytes.result.now c.bytes_mut-bytes.ensures.now
+    c.write_number32.ensures.others.len) ∙ (c.write_number32.ensures.others.len ∙ ap length c.bytes_mut-bytes.ensures.now))
 
 pub returns-clause-lends : goal.returns-clause-lends
 returns-clause-lends g c = back c.args.buf.bytes c.requires.lent refl c.bdwrite.ensures.lends

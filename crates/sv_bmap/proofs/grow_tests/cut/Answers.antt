@@ -18,13 +18,17 @@ loop-k-init c =
     }
 
 pub part-requires : goal.part-requires
-part-requires c = cut-can c.loop-k.k c.loop-k.invariant.cut (omega (arith, c.loop-k-test.true)) (ap (λ (q : Lent). q (100 + c.loop-k.k)) c.loop-k.invariant.lends)
+part-requires c = cut-can c.loop-k.k c.loop-k.invariant.cut (omega (arith, c.loop-k-test.true))
+    (ap (λ (q : Lent). q (100 + c.loop-k.k)) c.loop-k.invariant.lends)
 
 pub loop-k-preserved : goal.loop-k-preserved
 loop-k-preserved c = record {
-  cut = cut-pushed (λ s. held_of s.blocks) c.loop-k.parts.items c.add_part.new.parts.items c.in_ok-part.part c.loop-k.k c.loop-k.invariant.cut (omega (arith, c.loop-k-test.true)) c.in_ok-part.ensures.ok c.in_ok-add_part.ensures;
-  away = all-pushed (λ s. lent_of s.blocks ≡ nothing_lent) _ _ _ c.in_ok-add_part.ensures c.loop-k.invariant.away c.in_ok-part.ensures.new_lent;
-  home = all-pushed (λ s. origin_of s.tally s.sizes ≡ origin_of c.args.stake.now.tally c.args.stake.now.sizes) _ _ _ c.in_ok-add_part.ensures c.loop-k.invariant.home (c.in_ok-part.ensures.new_origin ∙ c.loop-k.invariant.origin);
+  cut = cut-pushed (λ s. held_of s.blocks) c.loop-k.parts.items c.add_part.new.parts.items c.in_ok-part.part c.loop-k.k
+      c.loop-k.invariant.cut (omega (arith, c.loop-k-test.true)) c.in_ok-part.ensures.ok c.in_ok-add_part.ensures;
+  away = all-pushed (λ s. lent_of s.blocks ≡ nothing_lent) _ _ _ c.in_ok-add_part.ensures c.loop-k.invariant.away
+      c.in_ok-part.ensures.new_lent;
+  home = all-pushed (λ s. origin_of s.tally s.sizes ≡ origin_of c.args.stake.now.tally c.args.stake.now.sizes) _ _ _
+      c.in_ok-add_part.ensures c.loop-k.invariant.home (c.in_ok-part.ensures.new_origin ∙ c.loop-k.invariant.origin);
   lends = c.part.ensures.lends ∙ c.loop-k.invariant.lends;
   origin = c.part.ensures.origin ∙ c.loop-k.invariant.origin;
 }

@@ -8,7 +8,9 @@ use Rattle.sv_bmap.proofs.order.add_single.Given as goal
 
 abbrev pub invariant-loop-k : goal.invariant-loop-k
 invariant-loop-k g l = record {
-  blocks : l.blocks.items ≡ l.initial.blocks.items ++ flat_map (λ k. blocks_below (block_numbers (g.S.Stake.origin l.initial.s).sizes) (g.S.Stake.held l.initial.s) 0 (child (g.S.Stake.held l.initial.s) l.fn.b k)) (range_with_len 0 l.k);
+  blocks : l.blocks.items ≡ l.initial.blocks.items ++ flat_map
+      (λ k. blocks_below (block_numbers (g.S.Stake.origin l.initial.s).sizes) (g.S.Stake.held l.initial.s) 0
+      (child (g.S.Stake.held l.initial.s) l.fn.b k)) (range_with_len 0 l.k);
   held : g.S.Stake.held l.s ≡ g.S.Stake.held l.initial.s;
   lends : g.S.Stake.lent l.s ≡ nothing_lent;
   forced : g.S.Stake.forced l.s ≡ g.S.Stake.forced l.initial.s;

@@ -15,7 +15,9 @@ brelse-requires g c = CanReturn-got c.in_ok-buf.ensures.ok _ _ c.in_ok-buf.ensur
 pub returns-clause-block : goal.returns-clause-block
 returns-clause-block g c =
     c.number32-block.ensures
-    ∙ (ap (λ q. number32 q (c.args.k * 4)) c.bytes.ensures ∙ (number-got c.in_ok-buf.ensures.ok c.args.k is ∙ sym (child-there (g.S.Stake.held c.args.s.now) c.args.b c.args.k c.if-b-eq0.false)))
+    ∙ (ap (λ q. number32 q (c.args.k * 4)) c.bytes.ensures
+    ∙ (number-got c.in_ok-buf.ensures.ok c.args.k is
+    ∙ sym (child-there (g.S.Stake.held c.args.s.now) c.args.b c.args.k c.if-b-eq0.false)))
   where
     is : IsSome (g.S.Stake.held c.args.s.now c.args.b (c.args.k / 16))
     is = (c.requires.block c.if-b-eq0.false).at (c.args.k / 16) (omega (arith, c.requires.place))
@@ -25,4 +27,5 @@ returns-clause-lends g c =
     c.brelse.ensures.lends
     ∙ (ap (λ q. without q (g.S.Stake.lent c.bread.new.self)) c.in_ok-buf.ensures.ok.block
     ∙ (ap (without c.args.b) c.in_ok-buf.ensures.lends
-    ∙ (without-with c.args.b c.in_ok-buf.buf.bytes (g.S.Stake.lent c.args.s.now) (ap (λ (q : Lent). q c.args.b) c.requires.lent) ∙ c.requires.lent)))
+    ∙ (without-with c.args.b c.in_ok-buf.buf.bytes (g.S.Stake.lent c.args.s.now) (ap (λ (q : Lent). q c.args.b) c.requires.lent)
+    ∙ c.requires.lent)))

@@ -27,7 +27,11 @@ need_of_page-requires-clause-page g c _ _ =
 pub loop-k-preserved : goal.loop-k-preserved
 loop-k-preserved g c = record {
   missing =
-      plus c.loop-k.invariant.missing (c.in_ok-missing.ensures.need ∙ need-after (g.S.Stake.origin c.args.s.now) (g.S.Stake.origin c.loop-k.s) (g.S.Stake.held c.args.s.now) (g.S.Stake.held c.loop-k.s) c.args.a.now c.args.first (c.args.first + c.loop-k.k) c.loop-k.invariant.origin c.loop-k.invariant.held)
+      plus c.loop-k.invariant.missing
+      (c.in_ok-missing.ensures.need
+      ∙ need-after (g.S.Stake.origin c.args.s.now) (g.S.Stake.origin c.loop-k.s) (g.S.Stake.held c.args.s.now)
+      (g.S.Stake.held c.loop-k.s) c.args.a.now c.args.first (c.args.first + c.loop-k.k) c.loop-k.invariant.origin
+      c.loop-k.invariant.held)
       ∙ sym (need-more (g.S.Stake.origin c.args.s.now).sizes (g.S.Stake.held c.args.s.now) c.args.a.now c.args.first c.loop-k.k);
   few = omega (arith, c.loop-k.invariant.few, c.in_ok-missing.ensures.few);
   held = c.need_of_page.ensures.held ∙ c.loop-k.invariant.held;

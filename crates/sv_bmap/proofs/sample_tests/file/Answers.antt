@@ -7,10 +7,13 @@ use Rattle.sv_bmap.proofs.Sample.{each-length, length-samples, sample-tree, size
 use Rattle.sv_bmap.proofs.sample_tests.file.Goals as goal
 
 pub new-requires-clause-blocks : goal.new-requires-clause-blocks
-new-requires-clause-blocks c = sym (length-map c.in_ok-content.content.items (λ bytes. bytes.items)) ∙ (ap length c.in_ok-content.ensures ∙ length-samples)
+new-requires-clause-blocks c = sym (length-map c.in_ok-content.content.items (λ bytes. bytes.items))
+    ∙ (ap length c.in_ok-content.ensures ∙ length-samples)
 
 pub new-requires-clause-bytes : goal.new-requires-clause-bytes
-new-requires-clause-bytes c = each-length c.in_ok-content.content.items c.in_ok-content.ensures (sym (length-map c.in_ok-content.content.items (λ bytes. bytes.items)) ∙ (ap length c.in_ok-content.ensures ∙ length-samples))
+new-requires-clause-bytes c = each-length c.in_ok-content.content.items c.in_ok-content.ensures
+    (sym (length-map c.in_ok-content.content.items (λ bytes. bytes.items)) ∙ (ap length c.in_ok-content.ensures ∙ length-samples))
 
 pub returns-clause-tree : goal.returns-clause-tree
-returns-clause-tree c = tree-after c.in_ok-stake.ensures.origin (c.in_ok-stake.ensures.held ∙ ap (of_content sizes) c.in_ok-content.ensures) (sample-tree _)
+returns-clause-tree c = tree-after c.in_ok-stake.ensures.origin
+    (c.in_ok-stake.ensures.held ∙ ap (of_content sizes) c.in_ok-content.ensures) (sample-tree _)

@@ -8,4 +8,5 @@ pub returns-clause-held : goal.returns-clause-held
 returns-clause-held c = λ b l block line.
     ap (λ q. is_some (q b l)) c.in_ok-stake.ensures.held
     ∙ held-content _ (map (λ bytes. bytes.items) c.in_ok-content.content.items) b l
-    (omega (arith, block, length-map c.in_ok-content.content.items (λ bytes. bytes.items), c.in_ok-content.ensures.count)) (omega (arith, line))
+    (omega (arith, block, length-map c.in_ok-content.content.items (λ bytes. bytes.items), c.in_ok-content.ensures.count))
+    (omega (arith, line))

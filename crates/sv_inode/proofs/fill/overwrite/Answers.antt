@@ -14,7 +14,8 @@ bdwrite-requires g c =
     CanPut-whole _ c.in_ok-buf.buf.bytes (holds-got c.in_ok-buf.ensures.held c.in_ok-buf.ensures.ok.block c.requires.block)
     (lent-at nothing_lent (lent-with c.in_ok-buf.buf.bytes c.in_ok-buf.ensures.lends c.requires.lent c.in_ok-buf.ensures.ok.block))
     c.in_ok-buf.ensures.ok.size
-    (ap length (refilled c.in_ok-buf.buf.bytes c.copy_in.new.bytes c.bytes_mut-bytes.result.now c.bytes_mut-bytes.ensures.now c.copy_in.ensures.len) ∙ (c.copy_in.ensures.len ∙ ap length c.bytes_mut-bytes.ensures.now))
+    (ap length (refilled c.in_ok-buf.buf.bytes c.copy_in.new.bytes c.bytes_mut-bytes.result.now c.bytes_mut-bytes.ensures.now
+    c.copy_in.ensures.len) ∙ (c.copy_in.ensures.len ∙ ap length c.bytes_mut-bytes.ensures.now))
 
 pub returns-clause-ok : goal.returns-clause-ok
 returns-clause-ok g c = (
@@ -22,8 +23,13 @@ returns-clause-ok g c = (
   (
     c.in_ok-buf.ensures.ok,
     c.bdwrite.ensures.held
-        ∙ (ap (λ q. put c.in_ok-buf.buf.block q (g.S.Stake.held c.bread.new.self)) (refilled c.in_ok-buf.buf.bytes c.copy_in.new.bytes c.bytes_mut-bytes.result.now c.bytes_mut-bytes.ensures.now c.copy_in.ensures.len ∙ (c.copy_in.ensures.bytes ∙ ap (λ q. patched q c.args.from c.args.piece.now) c.bytes_mut-bytes.ensures.now))
-        ∙ (ap (λ q. put q (patched c.in_ok-buf.buf.bytes c.args.from c.args.piece.now) (g.S.Stake.held c.bread.new.self)) c.in_ok-buf.ensures.ok.block ∙ ap (put c.args.b (patched c.in_ok-buf.buf.bytes c.args.from c.args.piece.now)) c.in_ok-buf.ensures.held)),
+        ∙ (ap (λ q. put c.in_ok-buf.buf.block q (g.S.Stake.held c.bread.new.self))
+        (refilled c.in_ok-buf.buf.bytes c.copy_in.new.bytes c.bytes_mut-bytes.result.now c.bytes_mut-bytes.ensures.now
+        c.copy_in.ensures.len
+        ∙ (c.copy_in.ensures.bytes ∙ ap (λ q. patched q c.args.from c.args.piece.now) c.bytes_mut-bytes.ensures.now))
+        ∙ (ap (λ q. put q (patched c.in_ok-buf.buf.bytes c.args.from c.args.piece.now) (g.S.Stake.held c.bread.new.self))
+        c.in_ok-buf.ensures.ok.block
+        ∙ ap (put c.args.b (patched c.in_ok-buf.buf.bytes c.args.from c.args.piece.now)) c.in_ok-buf.ensures.held)),
   ),
 )
 
@@ -32,8 +38,11 @@ unfolding returns-clause-ok
 returns-clause-lines g c = same-put c.args.b (patched c.in_ok-buf.buf.bytes c.args.from c.args.piece.now) (returns-clause-ok g c).1.1
 
 pub returns-clause-lends : goal.returns-clause-lends
-returns-clause-lends g c = back c.in_ok-buf.buf.bytes (lent-with c.in_ok-buf.buf.bytes c.in_ok-buf.ensures.lends c.requires.lent c.in_ok-buf.ensures.ok.block) refl c.bdwrite.ensures.lends
+returns-clause-lends g c = back c.in_ok-buf.buf.bytes
+    (lent-with c.in_ok-buf.buf.bytes c.in_ok-buf.ensures.lends c.requires.lent c.in_ok-buf.ensures.ok.block) refl c.bdwrite.ensures.lends
 
 pub returns-clause-others : goal.returns-clause-others
 unfolding returns-clause-ok
-returns-clause-others g c = λ b l apart. ap (λ q. q b l) (returns-clause-ok g c).1.1 ∙ put-other c.args.b (patched c.in_ok-buf.buf.bytes c.args.from c.args.piece.now) (g.S.Stake.held c.args.s.now) b l (other b c.args.b apart)
+returns-clause-others g c = λ b l apart. ap (λ q. q b l) (returns-clause-ok g c).1.1
+    ∙ put-other c.args.b (patched c.in_ok-buf.buf.bytes c.args.from c.args.piece.now) (g.S.Stake.held c.args.s.now) b l
+    (other b c.args.b apart)

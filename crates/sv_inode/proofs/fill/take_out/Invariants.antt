@@ -12,6 +12,8 @@ invariant-loop-block g l = record {
   parts : length l.parts.items ≡ l._block;
   room : 4 ≤ vec_capacity l.parts;
   capacity : vec_capacity l.cuts ≡ vec_capacity l.fn.cuts;
-  left : (o : Origin) (h : Held) → All (IsPart g.S.Stake.held g.S.Stake.lent g.S.Stake.origin g.S.Stake.forced o h) l.fn.cuts.items → All (IsPart g.S.Stake.held g.S.Stake.lent g.S.Stake.origin g.S.Stake.forced o h) l.cuts.items;
-  pairs : (o : Origin) (h : Held) → All (IsPart g.S.Stake.held g.S.Stake.lent g.S.Stake.origin g.S.Stake.forced o h) l.fn.cuts.items → ArePaired g.S.Stake.held g.S.Stake.lent g.S.Stake.origin g.S.Stake.forced o h l.names.items l.parts.items;
+  left : (o : Origin) (h : Held) → All (IsPart g.S.Stake.held g.S.Stake.lent g.S.Stake.origin g.S.Stake.forced o h) l.fn.cuts.items
+      → All (IsPart g.S.Stake.held g.S.Stake.lent g.S.Stake.origin g.S.Stake.forced o h) l.cuts.items;
+  pairs : (o : Origin) (h : Held) → All (IsPart g.S.Stake.held g.S.Stake.lent g.S.Stake.origin g.S.Stake.forced o h) l.fn.cuts.items
+      → ArePaired g.S.Stake.held g.S.Stake.lent g.S.Stake.origin g.S.Stake.forced o h l.names.items l.parts.items;
 }

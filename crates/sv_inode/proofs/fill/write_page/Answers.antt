@@ -13,37 +13,47 @@ use Rattle.sv_inode.proofs.fill.write_page.Goals as goal
 
 pub overwrite-requires-clause-block : goal.overwrite-requires-clause-block
 overwrite-requires-clause-block g c κs within =
-    some-held c.args.inode.now.body.addresses c.args.page c.in-Some.b (let P : Geometry → Type 0 = IsGeometry in subst P c.geometry-sizes.ensures.value c.geometry-sizes.ensures.sizes)
-    c.requires.piece.is_page c.requires.stands.1.tree (sym c.in_ok-block.ensures.block ∙ c.in-Some.is) c.lookup.ensures.origin c.lookup.ensures.held
+    some-held c.args.inode.now.body.addresses c.args.page c.in-Some.b
+    (let P : Geometry → Type 0 = IsGeometry in subst P c.geometry-sizes.ensures.value c.geometry-sizes.ensures.sizes)
+    c.requires.piece.is_page c.requires.stands.1.tree (sym c.in_ok-block.ensures.block ∙ c.in-Some.is) c.lookup.ensures.origin
+    c.lookup.ensures.held
 
 pub add_page-requires-clause-stands : goal.add_page-requires-clause-stands
-add_page-requires-clause-stands g c κs within = (c.requires.stands.0, stands-since c.lookup.ensures.origin c.lookup.ensures.held c.requires.stands.1)
+add_page-requires-clause-stands g c κs within =
+    (c.requires.stands.0, stands-since c.lookup.ensures.origin c.lookup.ensures.held c.requires.stands.1)
 
 pub add_page-requires-clause-room : goal.add_page-requires-clause-room
 add_page-requires-clause-room g c κs within = record {
-  empty = all-of-last (λ room. room.items ≡ []) c.args.supplies.now.rooms.items c.pop.new.self.items c.in-Some-pop.room c.in-Some-pop.ensures.items c.requires.rooms.empty;
-  roomy = all-of-last (λ room. 4 ≤ vec_capacity room) c.args.supplies.now.rooms.items c.pop.new.self.items c.in-Some-pop.room c.in-Some-pop.ensures.items c.requires.rooms.roomy;
+  empty = all-of-last (λ room. room.items ≡ []) c.args.supplies.now.rooms.items c.pop.new.self.items c.in-Some-pop.room
+      c.in-Some-pop.ensures.items c.requires.rooms.empty;
+  roomy = all-of-last (λ room. 4 ≤ vec_capacity room) c.args.supplies.now.rooms.items c.pop.new.self.items c.in-Some-pop.room
+      c.in-Some-pop.ensures.items c.requires.rooms.roomy;
 }
 
 pub returns-in-Some-clause-node : goal.returns-in-Some-clause-node
 returns-in-Some-clause-node g c = λ node stands.
     IfOk-weaker c.overwrite.result _ _ (λ _ got.
-    piece-present c.args.page c.args.from c.args.piece.now (let P : Geometry → Type 0 = IsGeometry in subst P c.geometry-sizes.ensures.value c.geometry-sizes.ensures.sizes)
-    c.requires.piece.is_page c.requires.piece.fits stands (sym c.in_ok-block.ensures.block ∙ c.in-Some.is) c.lookup.ensures.origin c.lookup.ensures.held c.overwrite.ensures.origin got.1.0 got.1.1) c.overwrite.ensures.ok
+    piece-present c.args.page c.args.from c.args.piece.now
+    (let P : Geometry → Type 0 = IsGeometry in subst P c.geometry-sizes.ensures.value c.geometry-sizes.ensures.sizes)
+    c.requires.piece.is_page c.requires.piece.fits stands (sym c.in_ok-block.ensures.block ∙ c.in-Some.is) c.lookup.ensures.origin
+    c.lookup.ensures.held c.overwrite.ensures.origin got.1.0 got.1.1) c.overwrite.ensures.ok
 
 pub returns-in-Some-clause-cuts : goal.returns-in-Some-clause-cuts
 returns-in-Some-clause-cuts g c = λ h can.
-    uses-none c.args.supplies.now.cuts.items c.args.supplies.now.cuts.items can (record { at = λ b l. c.overwrite.ensures.lines.at b l ∙ ap (λ q. is_some (q b l)) c.lookup.ensures.held }) refl can.each
+    uses-none c.args.supplies.now.cuts.items c.args.supplies.now.cuts.items can
+    (record { at = λ b l. c.overwrite.ensures.lines.at b l ∙ ap (λ q. is_some (q b l)) c.lookup.ensures.held }) refl can.each
 
 pub returns-in-Some-clause-need : goal.returns-in-Some-clause-need
 returns-in-Some-clause-need g c =
     IfOk-weaker c.overwrite.result _ _ (λ _ got.
-    need-put c.args.inode.now.body.addresses c.args.page c.in-Some.b _ (patched got.0.bytes c.args.from c.args.piece.now) (let P : Geometry → Type 0 = IsGeometry in subst P c.geometry-sizes.ensures.value c.geometry-sizes.ensures.sizes)
+    need-put c.args.inode.now.body.addresses c.args.page c.in-Some.b _ (patched got.0.bytes c.args.from c.args.piece.now)
+    (let P : Geometry → Type 0 = IsGeometry in subst P c.geometry-sizes.ensures.value c.geometry-sizes.ensures.sizes)
     c.requires.stands.1.tree (sym c.in_ok-block.ensures.block ∙ c.in-Some.is) c.lookup.ensures.held got.1.1) c.overwrite.ensures.ok
 
 pub returns-in-Some-pop-clause-need : goal.returns-in-Some-pop-clause-need
 returns-in-Some-pop-clause-need g c =
-    need-since (g.S.Stake.held c.add_page.new.inode.stake) c.args.inode.now.body.addresses c.add_page.new.inode.body.addresses c.args.page _ _ c.add_page.result c.lookup.ensures.origin c.lookup.ensures.held c.add_page.ensures.need
+    need-since (g.S.Stake.held c.add_page.new.inode.stake) c.args.inode.now.body.addresses c.add_page.new.inode.body.addresses c.args.page
+    _ _ c.add_page.result c.lookup.ensures.origin c.lookup.ensures.held c.add_page.ensures.need
 
 pub returns-in-Some-clause-rooms : goal.returns-in-Some-clause-rooms
 returns-in-Some-clause-rooms g c = record {
@@ -56,8 +66,10 @@ returns-in-Some-clause-rooms g c = record {
 pub returns-in-Some-pop-clause-rooms : goal.returns-in-Some-pop-clause-rooms
 returns-in-Some-pop-clause-rooms g c = record {
   enough = omega (arith, ap length c.in-Some-pop.ensures.items, length-append c.pop.new.self.items (c.in-Some-pop.room ∷ []));
-  empty = all-of-front (λ room. room.items ≡ []) c.args.supplies.now.rooms.items c.pop.new.self.items c.in-Some-pop.room c.in-Some-pop.ensures.items c.requires.rooms.empty;
-  roomy = all-of-front (λ room. 4 ≤ vec_capacity room) c.args.supplies.now.rooms.items c.pop.new.self.items c.in-Some-pop.room c.in-Some-pop.ensures.items c.requires.rooms.roomy;
+  empty = all-of-front (λ room. room.items ≡ []) c.args.supplies.now.rooms.items c.pop.new.self.items c.in-Some-pop.room
+      c.in-Some-pop.ensures.items c.requires.rooms.empty;
+  roomy = all-of-front (λ room. 4 ≤ vec_capacity room) c.args.supplies.now.rooms.items c.pop.new.self.items c.in-Some-pop.room
+      c.in-Some-pop.ensures.items c.requires.rooms.roomy;
   size = omega (
     arith,
     length-take c.args.supplies.now.page.len (c.lay_out.new.bytes ++ drop (length c.lay_out.new.bytes) c.args.supplies.now.page.items),
@@ -82,7 +94,9 @@ returns-in-Some-clause-front g c = record {
         arith,
         same,
         low,
-        (page-in-data c.args.page (let P : Geometry → Type 0 = IsGeometry in subst P c.geometry-sizes.ensures.value c.geometry-sizes.ensures.sizes) c.requires.piece.is_page c.requires.stands.1.data_blocks (sym c.in_ok-block.ensures.block ∙ c.in-Some.is)).least,
+        (page-in-data c.args.page
+            (let P : Geometry → Type 0 = IsGeometry in subst P c.geometry-sizes.ensures.value c.geometry-sizes.ensures.sizes)
+            c.requires.piece.is_page c.requires.stands.1.data_blocks (sym c.in_ok-block.ensures.block ∙ c.in-Some.is)).least,
       )))
       ∙ ap (λ q. q b l) c.lookup.ensures.held;
 }
@@ -104,7 +118,8 @@ returns-in-Some-pop-clause-front g c = record {
 pub returns-in-Some-clause-only : goal.returns-in-Some-clause-only
 returns-in-Some-clause-only g c = λ n was.
     on-either c.overwrite.result
-    (λ got. only-written c.args.page (patched got.0.bytes c.args.from c.args.piece.now) n (let P : Geometry → Type 0 = IsGeometry in subst P c.geometry-sizes.ensures.value c.geometry-sizes.ensures.sizes)
+    (λ got. only-written c.args.page (patched got.0.bytes c.args.from c.args.piece.now) n
+    (let P : Geometry → Type 0 = IsGeometry in subst P c.geometry-sizes.ensures.value c.geometry-sizes.ensures.sizes)
     c.requires.piece.is_page c.requires.stands.1.tree (sym c.in_ok-block.ensures.block ∙ c.in-Some.is) c.lookup.ensures.held got.1.1 was)
     (λ same. only-same (same ∙ c.lookup.ensures.held) refl was) c.overwrite.ensures.ok c.overwrite.ensures.err
 

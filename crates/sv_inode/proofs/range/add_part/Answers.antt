@@ -10,7 +10,8 @@ pub returns-in_default-clause-bytes : goal.returns-in_default-clause-bytes
 returns-in_default-clause-bytes g c =
     c.in_ok-add_zeros.ensures
     ∙ ap (λ q. c.args.bytes.now.items ++ q)
-    (hole_part (g.S.Stake.held c.args.s.now) c.args.from c.args.count ∙ ap (λ (x : Option ℕ). part_bytes (g.S.Stake.held c.args.s.now) x c.args.from c.args.count) (sym c.in_default.is))
+    (hole_part (g.S.Stake.held c.args.s.now) c.args.from c.args.count
+    ∙ ap (λ (x : Option ℕ). part_bytes (g.S.Stake.held c.args.s.now) x c.args.from c.args.count) (sym c.in_default.is))
 
 pub brelse-requires : goal.brelse-requires
 brelse-requires g c = CanReturn-got c.in_ok-buf.ensures.ok _ _ c.in_ok-buf.ensures.lends
@@ -20,7 +21,8 @@ returns-in_err-added-clause-lends g c =
     c.brelse.ensures.lends
     ∙ (ap (λ q. without q (g.S.Stake.lent c.get_page.new.s)) c.in_ok-buf.ensures.ok.block
     ∙ (ap (without c.in-Some.b) c.in_ok-buf.ensures.lends
-    ∙ (without-with c.in-Some.b c.in_ok-buf.buf.bytes (g.S.Stake.lent c.args.s.now) (ap (λ (q : Lent). q c.in-Some.b) c.requires.lent) ∙ c.requires.lent)))
+    ∙ (without-with c.in-Some.b c.in_ok-buf.buf.bytes (g.S.Stake.lent c.args.s.now) (ap (λ (q : Lent). q c.in-Some.b) c.requires.lent)
+    ∙ c.requires.lent)))
 
 pub returns-clause-bytes : goal.returns-clause-bytes
 returns-clause-bytes g c =
@@ -31,11 +33,14 @@ returns-clause-bytes g c =
     ∙ ap (λ (x : Option ℕ). part_bytes (g.S.Stake.held c.args.s.now) x c.args.from c.args.count) (sym c.in-Some.is)))
   where
     holds : HoldsBlock (g.S.Stake.origin c.args.s.now) (g.S.Stake.held c.args.s.now) c.in-Some.b
-    holds = (let P : Option ℕ → Type 0 = λ q. IfSome q (λ b. HoldsBlock (g.S.Stake.origin c.args.s.now) (g.S.Stake.held c.args.s.now) b) in subst P c.in-Some.is c.requires.block)
+    holds = (let P : Option ℕ
+        → Type 0 = λ q. IfSome q (λ b. HoldsBlock (g.S.Stake.origin c.args.s.now) (g.S.Stake.held c.args.s.now) b) in subst P c.in-Some.is
+        c.requires.block)
 
 pub returns-clause-lends : goal.returns-clause-lends
 returns-clause-lends g c =
     c.brelse.ensures.lends
     ∙ (ap (λ q. without q (g.S.Stake.lent c.get_page.new.s)) c.in_ok-buf.ensures.ok.block
     ∙ (ap (without c.in-Some.b) c.in_ok-buf.ensures.lends
-    ∙ (without-with c.in-Some.b c.in_ok-buf.buf.bytes (g.S.Stake.lent c.args.s.now) (ap (λ (q : Lent). q c.in-Some.b) c.requires.lent) ∙ c.requires.lent)))
+    ∙ (without-with c.in-Some.b c.in_ok-buf.buf.bytes (g.S.Stake.lent c.args.s.now) (ap (λ (q : Lent). q c.in-Some.b) c.requires.lent)
+    ∙ c.requires.lent)))

@@ -7,17 +7,21 @@ use Rattle.sv_inode.proofs.supplies.take_all.Goals as goal
 pub free_all-requires-clause-cuts : goal.free_all-requires-clause-cuts
 free_all-requires-clause-cuts g c κs within = (
   g.S.Stake.held c.args.core.now.stake,
-  can-return c.in-Err.ensures.origin c.in-Err.ensures.cuts (taken-are c.args.core.now c.take_each.new.core c.in-Err.ensures.sound c.in-Err.ensures.taken),
+  can-return c.in-Err.ensures.origin c.in-Err.ensures.cuts
+      (taken-are c.args.core.now c.take_each.new.core c.in-Err.ensures.sound c.in-Err.ensures.taken),
 )
 
 pub returns-in-Err-clause-back : goal.returns-in-Err-clause-back
 returns-in-Err-clause-back g c =
     comes-back c.in-Err.ensures.cuts c.in-Err.ensures.taken c.free_all.ensures.blocks
-    (c.free_all.ensures.lines (g.S.Stake.held c.args.core.now.stake) (can-return c.in-Err.ensures.origin c.in-Err.ensures.cuts (taken-are c.args.core.now c.take_each.new.core c.in-Err.ensures.sound c.in-Err.ensures.taken)))
+    (c.free_all.ensures.lines (g.S.Stake.held c.args.core.now.stake)
+    (can-return c.in-Err.ensures.origin c.in-Err.ensures.cuts
+    (taken-are c.args.core.now c.take_each.new.core c.in-Err.ensures.sound c.in-Err.ensures.taken)))
     c.free_all.ensures.others
 
 pub returns-in-Err-clause-left_kept : goal.returns-in-Err-clause-left_kept
-returns-in-Err-clause-left_kept g c = omega (arith, freed-left c.free_all.ensures.blocks, length-map c.take_each.new.cuts.items (λ x. x.0), c.in-Err.ensures.left)
+returns-in-Err-clause-left_kept g c =
+    omega (arith, freed-left c.free_all.ensures.blocks, length-map c.take_each.new.cuts.items (λ x. x.0), c.in-Err.ensures.left)
 
 pub returns-in-Ok-clause-cuts : goal.returns-in-Ok-clause-cuts
 returns-in-Ok-clause-cuts g c = record {

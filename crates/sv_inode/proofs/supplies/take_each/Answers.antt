@@ -9,7 +9,8 @@ use Rattle.sv_inode.proofs.supplies.take_each.Goals as goal
 
 pub loop-block-init : goal.loop-block-init
 loop-block-init g c = record {
-  cuts = cut-none g.S.Stake.held g.S.Stake.lent g.S.Stake.origin g.S.Stake.forced g.S.Stake.faults (g.S.Stake.origin c.args.core.now.stake) (g.S.Stake.held c.args.core.now.stake) c.args.cuts.now.items c.requires.none;
+  cuts = cut-none g.S.Stake.held g.S.Stake.lent g.S.Stake.origin g.S.Stake.forced g.S.Stake.faults (g.S.Stake.origin c.args.core.now.stake)
+      (g.S.Stake.held c.args.core.now.stake) c.args.cuts.now.items c.requires.none;
   taken = λ b. omega (arith, ap (λ q. times b (names_of q)) c.requires.none, times-nil b);
   count = ap length c.requires.none;
   left = omega arith;
@@ -24,7 +25,8 @@ loop-block-init g c = record {
 
 pub loop-block-preserved : goal.loop-block-preserved
 loop-block-preserved g c = record {
-  cuts = one-more c.args.core.now c.left-left.ensures.sound c.loop-block.invariant.cuts refl c.loop-block.invariant.origin c.loop-block.invariant.taken c.in_ok-take_next.ensures.taken;
+  cuts = one-more c.args.core.now c.left-left.ensures.sound c.loop-block.invariant.cuts refl c.loop-block.invariant.origin
+      c.loop-block.invariant.taken c.in_ok-take_next.ensures.taken;
   taken = names-more c.args.core.now c.loop-block.invariant.taken c.in_ok-take_next.ensures.taken;
   count = count-more c.in_ok-take_next.ensures.taken ∙ ap (λ q. q + 1) c.loop-block.invariant.count;
   left = omega (arith, takes-left c.in_ok-take_next.ensures.taken.b c.in_ok-take_next.ensures.taken.free, c.loop-block.invariant.left);

@@ -7,7 +7,8 @@ use Rattle.sv_inode.proofs.supplies.take_each.Given as goal
 
 abbrev pub invariant-loop-block : goal.invariant-loop-block
 invariant-loop-block g l = record {
-  cuts : IsCutFrom g.S.Stake.held g.S.Stake.lent g.S.Stake.origin g.S.Stake.forced g.S.Stake.faults (g.S.Stake.origin l.fn.core.stake) (g.S.Stake.held l.fn.core.stake) (g.S.Stake.held l.core.stake) l.cuts.items;
+  cuts : IsCutFrom g.S.Stake.held g.S.Stake.lent g.S.Stake.origin g.S.Stake.forced g.S.Stake.faults (g.S.Stake.origin l.fn.core.stake)
+      (g.S.Stake.held l.fn.core.stake) (g.S.Stake.held l.core.stake) l.cuts.items;
   taken : (b : ℕ) → free_times l.core.chain l.core.aside b + times b (names_of l.cuts.items) ≡ free_times l.fn.core.chain l.fn.core.aside b;
   count : length l.cuts.items ≡ l._block;
   left : left_of l.core + l._block ≡ left_of l.fn.core;

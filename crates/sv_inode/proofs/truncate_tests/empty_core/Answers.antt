@@ -12,21 +12,28 @@ part-requires g c = super-part c.requires.held c.requires.lent
 
 pub new-requires-clause-blocks : goal.new-requires-clause-blocks
 new-requires-clause-blocks g c _ _ =
-    mount-empty {o = g.S.Stake.origin c.in_ok-stake.stake} c.requires.held c.in_ok-stake.ensures.ok (ap (λ q. q.sizes) c.in_ok-stake.ensures.new_origin ∙ c.requires.sizes) c.in_ok-stake.ensures.new_lent c.in_ok-mounted.ensures.geometry c.in_ok-mounted.ensures.count c.in_ok-mounted.ensures.owners c.in_ok-mounted.ensures.list
+    mount-empty {o = g.S.Stake.origin c.in_ok-stake.stake} c.requires.held c.in_ok-stake.ensures.ok
+    (ap (λ q. q.sizes) c.in_ok-stake.ensures.new_origin ∙ c.requires.sizes) c.in_ok-stake.ensures.new_lent
+    c.in_ok-mounted.ensures.geometry c.in_ok-mounted.ensures.count c.in_ok-mounted.ensures.owners c.in_ok-mounted.ensures.list
 
 pub new-requires-clause-inodes : goal.new-requires-clause-inodes
-new-requires-clause-inodes g c _ _ = mount-no-inodes (ap (λ q. q.sizes) c.in_ok-stake.ensures.new_origin ∙ c.requires.sizes) c.in_ok-mounted.ensures.used c.in_ok-mounted.ensures.inodes
+new-requires-clause-inodes g c _ _ = mount-no-inodes (ap (λ q. q.sizes) c.in_ok-stake.ensures.new_origin ∙ c.requires.sizes)
+    c.in_ok-mounted.ensures.used c.in_ok-mounted.ensures.inodes
 
 pub returns-clause-source : goal.returns-clause-source
 returns-clause-source g c =
     IfOk-weaker c.new.result _ _
     (λ core same.
-    (let P : g.row.S.Denot → Type 0 = λ q. IsSource (g.S.Stake.origin q) (g.S.Stake.held q) (g.S.Stake.origin c.part.new.self) (g.S.Stake.held c.part.new.self) (g.S.Stake.lent c.part.new.self) 64 in
+    (let P : g.row.S.Denot
+    → Type 0 = λ q. IsSource (g.S.Stake.origin q) (g.S.Stake.held q) (g.S.Stake.origin c.part.new.self)
+    (g.S.Stake.held c.part.new.self) (g.S.Stake.lent c.part.new.self) 64 in
     subst P (sym same)
-    (first-source c.requires.held c.in_ok-stake.ensures.ok (ap (λ q. q.sizes) c.in_ok-stake.ensures.new_origin ∙ c.requires.sizes) (c.part.ensures.origin ∙ sym c.in_ok-stake.ensures.new_origin) (c.part.ensures.lends ∙ c.requires.lent)))) c.new.ensures.stake
+    (first-source c.requires.held c.in_ok-stake.ensures.ok (ap (λ q. q.sizes) c.in_ok-stake.ensures.new_origin ∙ c.requires.sizes)
+    (c.part.ensures.origin ∙ sym c.in_ok-stake.ensures.new_origin) (c.part.ensures.lends ∙ c.requires.lent)))) c.new.ensures.stake
 
 pub returns-clause-line : goal.returns-clause-line
-returns-clause-line g c = IsSome-kept c.in_ok-stake.ensures.ok 2 2 (in_range-other super_range 2 2 (λ same. absurd (omega (arith, same)))) (c.requires.held 2 2 (omega arith) (omega arith))
+returns-clause-line g c = IsSome-kept c.in_ok-stake.ensures.ok 2 2 (in_range-other super_range 2 2 (λ same. absurd (omega (arith, same))))
+    (c.requires.held 2 2 (omega arith) (omega arith))
 
 pub returns-clause-row : goal.returns-clause-row
 returns-clause-row g c = λ l line. row-kept c.in_ok-stake.ensures.ok l (c.requires.row l line)

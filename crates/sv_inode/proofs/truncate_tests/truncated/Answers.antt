@@ -12,7 +12,10 @@ truncate-answer-requires-clause-tree g c _ _ = record {
       subst P (sym c.requires.addresses)
       (eleven_tree (g.S.Stake.origin c.args.inode.now.stake) (g.S.Stake.held c.args.inode.now.stake)
       (ap (λ q. q.sizes.block_size) c.requires.source.home ∙ ap (λ q. q.block_size) c.requires.source.sizes) c.requires.row
-      (λ b least low. record { at = λ l fits. (c.requires.source.whole b (omega (arith, least)) (omega (arith, low))).at l (omega (arith, fits, ap (λ q. q.sizes.block_size) c.requires.source.home)) })));
+      (λ b least low. record {
+        at = λ l fits. (c.requires.source.whole b (omega (arith, least)) (omega (arith, low))).at l
+            (omega (arith, fits, ap (λ q. q.sizes.block_size) c.requires.source.home));
+      })));
   in_data =
       (let P : List ℕ → Type 0 = HasDataBlocks (g.S.Stake.origin c.args.inode.now.stake).sizes (g.S.Stake.held c.args.inode.now.stake) in
       subst P (sym c.requires.addresses)

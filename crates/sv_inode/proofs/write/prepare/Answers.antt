@@ -7,13 +7,21 @@ use Rattle.sv_inode.proofs.write.prepare.Goals as goal
 
 pub gather-requires-clause-left : goal.gather-requires-clause-left
 gather-requires-clause-left g c κs within =
-    omega (arith, c.requires.left, c.in_ok-count.ensures.need, need-whole (g.S.Stake.origin c.args.inode.now.stake).sizes c.geometry-sizes.result.block_size c.args.at c.args.all (g.S.Stake.held c.args.inode.now.stake) c.args.inode.now.body.addresses (ap (λ q. q.block_size) c.geometry-sizes.ensures.value) c.requires.some)
+    omega (
+      arith,
+      c.requires.left,
+      c.in_ok-count.ensures.need,
+      need-whole (g.S.Stake.origin c.args.inode.now.stake).sizes
+          c.geometry-sizes.result.block_size c.args.at c.args.all (g.S.Stake.held c.args.inode.now.stake) c.args.inode.now.body.addresses
+          (ap (λ q. q.block_size) c.geometry-sizes.ensures.value) c.requires.some,
+    )
 
 pub returns-clause-supplies : goal.returns-clause-supplies
 returns-clause-supplies g c =
     IfOk-weaker c.gather.result _ _ (λ supplies is. supplied-since (c.in_ok-count.ensures.need
     ∙ need-whole (g.S.Stake.origin c.args.inode.now.stake).sizes c.geometry-sizes.result.block_size c.args.at c.args.all
-    (g.S.Stake.held c.args.inode.now.stake) c.args.inode.now.body.addresses (ap (λ q. q.block_size) c.geometry-sizes.ensures.value) c.requires.some) is) c.gather.ensures.supplies
+    (g.S.Stake.held c.args.inode.now.stake) c.args.inode.now.body.addresses (ap (λ q. q.block_size) c.geometry-sizes.ensures.value)
+    c.requires.some) is) c.gather.ensures.supplies
 
 pub returns-clause-rooms : goal.returns-clause-rooms
 returns-clause-rooms g c =
@@ -33,10 +41,12 @@ pub returns-clause-spare : goal.returns-clause-spare
 returns-clause-spare g c =
     IfOk-weaker c.gather.result _ _ (λ _ same. same ∙ ap (max c.args.core.now.spare) (c.in_ok-count.ensures.need
     ∙ need-whole (g.S.Stake.origin c.args.inode.now.stake).sizes c.geometry-sizes.result.block_size c.args.at c.args.all
-    (g.S.Stake.held c.args.inode.now.stake) c.args.inode.now.body.addresses (ap (λ q. q.block_size) c.geometry-sizes.ensures.value) c.requires.some)) c.gather.ensures.spare
+    (g.S.Stake.held c.args.inode.now.stake) c.args.inode.now.body.addresses (ap (λ q. q.block_size) c.geometry-sizes.ensures.value)
+    c.requires.some)) c.gather.ensures.spare
 
 pub returns-clause-spare_kept : goal.returns-clause-spare_kept
 returns-clause-spare_kept g c =
     err-weaker c.gather.result (λ kept. room-since (c.in_ok-count.ensures.need
     ∙ need-whole (g.S.Stake.origin c.args.inode.now.stake).sizes c.geometry-sizes.result.block_size c.args.at c.args.all
-    (g.S.Stake.held c.args.inode.now.stake) c.args.inode.now.body.addresses (ap (λ q. q.block_size) c.geometry-sizes.ensures.value) c.requires.some) kept) c.gather.ensures.spare_kept
+    (g.S.Stake.held c.args.inode.now.stake) c.args.inode.now.body.addresses (ap (λ q. q.block_size) c.geometry-sizes.ensures.value)
+    c.requires.some) kept) c.gather.ensures.spare_kept

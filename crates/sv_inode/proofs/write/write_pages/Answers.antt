@@ -1,5 +1,6 @@
 -- Each page adds its piece, and takes what it needs.
-use Rattle.std.proofs.Common.{is_some, ◌≡◌, ◌<◌, ◌+◌, ◌-◌, ◌/◌, ◌%◌, ℕ, false, is_err, take, slice_range, suc, length, ap, arith, sym, subst, refl, ◌∙◌}
+use Rattle.std.proofs.Common.{is_some, ◌≡◌, ◌<◌, ◌+◌, ◌-◌, ◌/◌, ◌%◌, ℕ, false, is_err, take, slice_range, suc, length, ap, arith, sym}
+use Rattle.std.proofs.Common.{subst, refl, ◌∙◌}
 use Rattle.sv_form.specs.Geometry.{IsGeometry}
 use Rattle.sv_form.specs.Node.{Node}
 use Rattle.sv_form.specs.NodeChanges.{put, touched}
@@ -11,7 +12,8 @@ use Rattle.sv_bmap.specs.Need.{need_of}
 use Rattle.sv_inode.specs.StandsFor.{StandsFor}
 use Rattle.sv_inode.proofs.OwnLines.{only-moved}
 use Rattle.sv_inode.proofs.PagesHeld.{size_some}
-use Rattle.sv_inode.proofs.PagesPut.{all-done, need-done, need-enough, needs-next, on-err, on-ok, piece-written, is-piece, range-page, reached-same, rooms-first, uses-next, uses-nothing}
+use Rattle.sv_inode.proofs.PagesPut.{all-done, need-done, need-enough, needs-next, on-err, on-ok, piece-written, is-piece, range-page}
+use Rattle.sv_inode.proofs.PagesPut.{reached-same, rooms-first, uses-next, uses-nothing}
 use Rattle.sv_inode.proofs.PieceEnds.{IsPiece, IsReached, first-count, reached-begin, reached-next}
 use Rattle.sv_inode.proofs.WrittenNode.{put-begin}
 use Rattle.sv_inode.proofs.write.write_pages.Goals as goal
@@ -20,13 +22,23 @@ pub loop-page-init : goal.loop-page-init
 loop-page-init g c = record {
   first = omega arith;
   reached = reached-same (omega arith) (reached-begin c.geometry-sizes.result.block_size c.args.at pos (length c.args.from.now));
-  node = λ node stands. (let P : Node → Type 0 = λ q. StandsFor (g.S.Stake.origin c.args.inode.now.stake) (g.S.Stake.held c.args.inode.now.stake) c.args.inode.now.body q in
+  node = λ node stands.
+      (let P : Node → Type 0 = λ q. StandsFor (g.S.Stake.origin c.args.inode.now.stake)
+      (g.S.Stake.held c.args.inode.now.stake) c.args.inode.now.body q in
       subst P (sym (put-begin c.geometry-sizes.result.block_size node c.args.at c.args.from.now)) stands);
   cuts = λ h can. uses-nothing (g.S.Stake.held c.args.inode.now.stake) c.args.supplies.now.cuts.items can;
-  needs = λ n low. ap (λ q. need_of (g.S.Stake.origin c.args.inode.now.stake).sizes (g.S.Stake.held c.args.inode.now.stake) c.args.inode.now.body.addresses (c.args.at / c.geometry-sizes.result.block_size) q + length c.args.supplies.now.cuts.items) (omega arith);
+  needs = λ n low. ap (λ q. need_of (g.S.Stake.origin c.args.inode.now.stake).sizes
+      (g.S.Stake.held c.args.inode.now.stake) c.args.inode.now.body.addresses (c.args.at / c.geometry-sizes.result.block_size) q
+      + length c.args.supplies.now.cuts.items) (omega arith);
   only = λ n was. was;
   before = λ b l low is. refl;
-  rooms = rooms-first c.geometry-sizes.result.block_size c.args.at (length c.args.from.now) (length c.args.supplies.now.rooms.items) _ _ pos c.requires.some (omega (arith, c.requires.rooms.enough, ap (λ q. length (touched q.block_size c.args.at (length c.args.from.now))) c.geometry-sizes.ensures.value)) refl refl;
+  rooms = rooms-first c.geometry-sizes.result.block_size c.args.at (length c.args.from.now) (length c.args.supplies.now.rooms.items) _ _
+      pos c.requires.some (omega (
+        arith,
+        c.requires.rooms.enough,
+        ap (λ q. length (touched q.block_size c.args.at (length c.args.from.now)))
+            c.geometry-sizes.ensures.value,
+      )) refl refl;
   empty = c.requires.rooms.empty;
   roomy = c.requires.rooms.roomy;
   bytes = c.requires.rooms.size;
@@ -48,10 +60,16 @@ pub write_page-requires-clause-enough : goal.write_page-requires-clause-enough
 write_page-requires-clause-enough g c κs within =
     omega (
       arith,
-      ap (λ q. need_of q.sizes (g.S.Stake.held c.loop-page.inode.stake) c.loop-page.inode.body.addresses c.loop-page.page 1) c.loop-page.invariant.origin,
-      need-enough (g.S.Stake.origin c.args.inode.now.stake).sizes c.geometry-sizes.result.block_size c.args.at (length c.args.from.now) (c.loop-page.page - c.args.at / c.geometry-sizes.result.block_size) (c.args.at / c.geometry-sizes.result.block_size) ((c.args.at + length c.args.from.now - 1) / c.geometry-sizes.result.block_size) c.loop-page.page (length c.loop-page.supplies.cuts.items) (length c.args.supplies.now.cuts.items)
-          (g.S.Stake.held c.args.inode.now.stake) (g.S.Stake.held c.loop-page.inode.stake) c.args.inode.now.body.addresses c.loop-page.inode.body.addresses
-          (size_some _ c.geometry-sizes.ensures.sizes) (ap (λ q. q.block_size) c.geometry-sizes.ensures.value) c.requires.some refl refl (omega (arith, c.loop-page.invariant.first, c.loop-page-test.true))
+      ap (λ q. need_of q.sizes (g.S.Stake.held c.loop-page.inode.stake) c.loop-page.inode.body.addresses c.loop-page.page 1)
+          c.loop-page.invariant.origin,
+      need-enough (g.S.Stake.origin c.args.inode.now.stake).sizes c.geometry-sizes.result.block_size c.args.at (length c.args.from.now)
+          (c.loop-page.page - c.args.at / c.geometry-sizes.result.block_size) (c.args.at / c.geometry-sizes.result.block_size)
+          ((c.args.at + length c.args.from.now - 1) / c.geometry-sizes.result.block_size) c.loop-page.page
+          (length c.loop-page.supplies.cuts.items) (length c.args.supplies.now.cuts.items)
+          (g.S.Stake.held c.args.inode.now.stake) (g.S.Stake.held c.loop-page.inode.stake) c.args.inode.now.body.addresses
+          c.loop-page.inode.body.addresses
+          (size_some _ c.geometry-sizes.ensures.sizes) (ap (λ q. q.block_size) c.geometry-sizes.ensures.value) c.requires.some refl refl
+          (omega (arith, c.loop-page.invariant.first, c.loop-page-test.true))
           (c.loop-page.invariant.needs 1 (omega (arith, c.loop-page-test.true))) c.requires.enough,
     )
 
@@ -93,39 +111,72 @@ write_page-requires-clause-rooms g c κs within = record {
 }
 
 pub returns-then-is_err-clause-cuts : goal.returns-then-is_err-clause-cuts
-returns-then-is_err-clause-cuts g c = λ h can. uses-next c.args.supplies.now.cuts.items c.loop-page.supplies.cuts.items c.write_page.new.supplies.cuts.items c.loop-page.invariant.origin (c.loop-page.invariant.cuts h can) (c.write_page.ensures.cuts h)
+returns-then-is_err-clause-cuts g c = λ h can. uses-next c.args.supplies.now.cuts.items c.loop-page.supplies.cuts.items
+    c.write_page.new.supplies.cuts.items c.loop-page.invariant.origin (c.loop-page.invariant.cuts h can) (c.write_page.ensures.cuts h)
 
 pub returns-then-is_err-clause-need : goal.returns-then-is_err-clause-need
 returns-then-is_err-clause-need g c =
-    need-done (g.S.Stake.origin c.args.inode.now.stake).sizes c.geometry-sizes.result.block_size c.args.at (length c.args.from.now) (c.loop-page.page - c.args.at / c.geometry-sizes.result.block_size) c.loop-page.done (c.args.at / c.geometry-sizes.result.block_size) (length c.write_page.new.supplies.cuts.items) (length c.args.supplies.now.cuts.items)
-    (g.S.Stake.held c.args.inode.now.stake) (g.S.Stake.held c.loop-page.inode.stake) c.args.inode.now.body.addresses c.loop-page.inode.body.addresses c.loop-page.page
-    (size_some _ c.geometry-sizes.ensures.sizes) (ap (λ q. q.block_size) c.geometry-sizes.ensures.value) c.requires.some refl c.loop-page.invariant.reached (omega (arith, c.loop-page-test.true))
-    (omega (arith, c.loop-page.invariant.needs 0 (omega (arith, c.loop-page-test.true)), on-err c.write_page.result (sym c.is_err.ensures.value ∙ c.if-is_err.true) c.write_page.ensures.count))
+    need-done (g.S.Stake.origin c.args.inode.now.stake).sizes c.geometry-sizes.result.block_size c.args.at (length c.args.from.now)
+    (c.loop-page.page - c.args.at / c.geometry-sizes.result.block_size) c.loop-page.done
+    (c.args.at / c.geometry-sizes.result.block_size) (length c.write_page.new.supplies.cuts.items)
+    (length c.args.supplies.now.cuts.items)
+    (g.S.Stake.held c.args.inode.now.stake) (g.S.Stake.held c.loop-page.inode.stake) c.args.inode.now.body.addresses
+    c.loop-page.inode.body.addresses c.loop-page.page
+    (size_some _ c.geometry-sizes.ensures.sizes) (ap (λ q. q.block_size) c.geometry-sizes.ensures.value) c.requires.some refl
+    c.loop-page.invariant.reached (omega (arith, c.loop-page-test.true))
+    (omega (
+      arith,
+      c.loop-page.invariant.needs 0 (omega (arith, c.loop-page-test.true)),
+      on-err c.write_page.result
+          (sym c.is_err.ensures.value ∙ c.if-is_err.true) c.write_page.ensures.count,
+    ))
 
 pub loop-page-preserved : goal.loop-page-preserved
 loop-page-preserved g c = record {
   first = omega (arith, c.loop-page.invariant.first);
-  reached = reached-same (omega (arith, c.loop-page.invariant.first)) (reached-next c.geometry-sizes.result.block_size c.args.at pos c.args.from.now c.loop-page.done (c.loop-page.done + c.min.result) c.loop-page.page _ _ (c.loop-page.page - c.args.at / c.geometry-sizes.result.block_size) part c.loop-page.invariant.reached);
+  reached = reached-same (omega (arith, c.loop-page.invariant.first))
+      (reached-next c.geometry-sizes.result.block_size c.args.at pos c.args.from.now c.loop-page.done
+      (c.loop-page.done + c.min.result) c.loop-page.page _ _ (c.loop-page.page - c.args.at / c.geometry-sizes.result.block_size) part
+      c.loop-page.invariant.reached);
   node = λ node stands.
-      (let was : StandsFor (g.S.Stake.origin c.loop-page.inode.stake) (g.S.Stake.held c.loop-page.inode.stake) c.loop-page.inode.body (put c.geometry-sizes.result.block_size node c.args.at (take c.loop-page.done c.args.from.now)) = c.loop-page.invariant.node node stands in
-      let P : ℕ → Type 0 = λ q. StandsFor (g.S.Stake.origin c.write_page.new.inode.stake) (g.S.Stake.held c.write_page.new.inode.stake) (record c.write_page.new.inode.body { size = q }) (put c.geometry-sizes.result.block_size node c.args.at (take (c.loop-page.done + c.min.result) c.args.from.now)) in
+      (let was : StandsFor (g.S.Stake.origin c.loop-page.inode.stake) (g.S.Stake.held c.loop-page.inode.stake) c.loop-page.inode.body
+      (put c.geometry-sizes.result.block_size node c.args.at (take c.loop-page.done c.args.from.now)) =
+      c.loop-page.invariant.node node stands in
+      let P : ℕ → Type 0 = λ q. StandsFor (g.S.Stake.origin c.write_page.new.inode.stake) (g.S.Stake.held c.write_page.new.inode.stake)
+      (record c.write_page.new.inode.body { size = q })
+      (put c.geometry-sizes.result.block_size node c.args.at (take (c.loop-page.done + c.min.result) c.args.from.now)) in
       subst P (sym c.max-inode.ensures)
-      (piece-written node c.geometry-sizes.result.block_size c.args.at c.args.from.now c.loop-page.done (c.loop-page.done + c.min.result) c.loop-page.page inside (slice_range c.args.from.now c.loop-page.done (c.loop-page.done + c.min.result))
-      here_sizes here_size is part was (on-ok c.write_page.result passed (c.write_page.ensures.node (put c.geometry-sizes.result.block_size node c.args.at (take c.loop-page.done c.args.from.now)) was))));
-  cuts = λ h can. uses-next c.args.supplies.now.cuts.items c.loop-page.supplies.cuts.items c.write_page.new.supplies.cuts.items c.loop-page.invariant.origin (c.loop-page.invariant.cuts h can) (c.write_page.ensures.cuts h);
+      (piece-written node c.geometry-sizes.result.block_size c.args.at c.args.from.now c.loop-page.done
+      (c.loop-page.done + c.min.result) c.loop-page.page inside
+      (slice_range c.args.from.now c.loop-page.done (c.loop-page.done + c.min.result))
+      here_sizes here_size is part was
+      (on-ok c.write_page.result passed
+      (c.write_page.ensures.node (put c.geometry-sizes.result.block_size node c.args.at (take c.loop-page.done c.args.from.now))
+      was))));
+  cuts = λ h can. uses-next c.args.supplies.now.cuts.items c.loop-page.supplies.cuts.items c.write_page.new.supplies.cuts.items
+      c.loop-page.invariant.origin (c.loop-page.invariant.cuts h can) (c.write_page.ensures.cuts h);
   needs = λ n low.
-      needs-next (g.S.Stake.held c.loop-page.inode.stake) (g.S.Stake.held c.write_page.new.inode.stake) (g.S.Stake.held c.args.inode.now.stake) c.args.inode.now.body.addresses c.loop-page.inode.body.addresses c.write_page.new.inode.body.addresses c.geometry-sizes.result.block_size c.args.at (length c.args.from.now) (c.args.at / c.geometry-sizes.result.block_size) ((c.args.at + length c.args.from.now - 1) / c.geometry-sizes.result.block_size) c.loop-page.page n
-      (length c.loop-page.supplies.cuts.items) (length c.write_page.new.supplies.cuts.items) (length c.args.supplies.now.cuts.items) c.loop-page.invariant.origin its_sizes (ap (λ q. q.block_size) c.geometry-sizes.ensures.value) c.requires.some c.requires.end refl refl c.loop-page.invariant.first low
+      needs-next (g.S.Stake.held c.loop-page.inode.stake) (g.S.Stake.held c.write_page.new.inode.stake)
+      (g.S.Stake.held c.args.inode.now.stake) c.args.inode.now.body.addresses c.loop-page.inode.body.addresses
+      c.write_page.new.inode.body.addresses c.geometry-sizes.result.block_size c.args.at (length c.args.from.now)
+      (c.args.at / c.geometry-sizes.result.block_size) ((c.args.at + length c.args.from.now - 1) / c.geometry-sizes.result.block_size)
+      c.loop-page.page n
+      (length c.loop-page.supplies.cuts.items) (length c.write_page.new.supplies.cuts.items)
+      (length c.args.supplies.now.cuts.items) c.loop-page.invariant.origin its_sizes
+      (ap (λ q. q.block_size) c.geometry-sizes.ensures.value) c.requires.some c.requires.end refl refl c.loop-page.invariant.first low
       (c.loop-page.invariant.needs (suc n) (omega (arith, low))) (on-ok c.write_page.result passed c.write_page.ensures.need n);
   only = λ n was. only-moved c.loop-page.invariant.origin (c.write_page.ensures.only n) (c.loop-page.invariant.only n was);
   before = λ b l low is.
-      c.write_page.ensures.front.before b l (omega (arith, low, ap (λ q. q.sizes.first_data) c.loop-page.invariant.origin)) (ap is_some (c.loop-page.invariant.before b l low is) ∙ is)
+      c.write_page.ensures.front.before b l (omega (arith, low, ap (λ q. q.sizes.first_data) c.loop-page.invariant.origin))
+      (ap is_some (c.loop-page.invariant.before b l low is) ∙ is)
       ∙ c.loop-page.invariant.before b l low is;
   rooms = omega (arith, c.loop-page.invariant.rooms, c.write_page.ensures.rooms.enough);
   empty = c.write_page.ensures.rooms.empty;
   roomy = c.write_page.ensures.rooms.roomy;
   bytes = c.write_page.ensures.rooms.size ∙ ap (λ q. q.sizes.block_size) c.loop-page.invariant.origin;
-  body = ap (λ (b : InodeBody). record b { size = c.max-inode.result }) (c.write_page.ensures.body ∙ ap (λ (b : InodeBody). record b { addresses = c.write_page.new.inode.body.addresses }) c.loop-page.invariant.body);
+  body = ap (λ (b : InodeBody). record b { size = c.max-inode.result })
+      (c.write_page.ensures.body
+      ∙ ap (λ (b : InodeBody). record b { addresses = c.write_page.new.inode.body.addresses }) c.loop-page.invariant.body);
   number = c.write_page.ensures.number ∙ c.loop-page.invariant.number;
   faults = omega (arith, c.write_page.ensures.front.stake.no_less, c.loop-page.invariant.faults);
   lends = c.write_page.ensures.front.stake.away;
@@ -146,7 +197,10 @@ loop-page-preserved g c = record {
     here_size = ap (λ q. q.block_size) c.geometry-sizes.ensures.value ∙ sym (ap (λ q. q.sizes.block_size) c.loop-page.invariant.origin)
 
     is : IsPage (g.S.Stake.origin c.loop-page.inode.stake).sizes c.loop-page.page
-    is = range-page c.geometry-sizes.result.block_size c.args.at (length c.args.from.now) (c.args.at / c.geometry-sizes.result.block_size) ((c.args.at + length c.args.from.now - 1) / c.geometry-sizes.result.block_size) c.loop-page.page c.loop-page.invariant.origin its_sizes (ap (λ q. q.block_size) c.geometry-sizes.ensures.value) c.requires.some c.requires.end refl refl c.loop-page.invariant.first (omega (arith, c.loop-page-test.true))
+    is = range-page c.geometry-sizes.result.block_size c.args.at (length c.args.from.now) (c.args.at / c.geometry-sizes.result.block_size)
+        ((c.args.at + length c.args.from.now - 1) / c.geometry-sizes.result.block_size) c.loop-page.page c.loop-page.invariant.origin
+        its_sizes (ap (λ q. q.block_size) c.geometry-sizes.ensures.value) c.requires.some c.requires.end refl refl
+        c.loop-page.invariant.first (omega (arith, c.loop-page-test.true))
 
     passed : is_err c.write_page.result ≡ false
     passed = sym c.is_err.ensures.value ∙ c.if-is_err.false
@@ -154,15 +208,41 @@ loop-page-preserved g c = record {
     inside : ℕ
     inside = (c.args.at + c.loop-page.done) % c.geometry-sizes.result.block_size
 
-    part : IsPiece c.geometry-sizes.result.block_size c.args.at c.args.from.now c.loop-page.done (c.loop-page.done + c.min.result) c.loop-page.page inside (slice_range c.args.from.now c.loop-page.done (c.loop-page.done + c.min.result))
-    part = is-piece c.geometry-sizes.result.block_size c.args.at c.args.from.now c.loop-page.done c.loop-page.page (c.args.at / c.geometry-sizes.result.block_size) ((c.args.at + length c.args.from.now - 1) / c.geometry-sizes.result.block_size) inside c.min.result (c.loop-page.done + c.min.result) (slice_range c.args.from.now c.loop-page.done (c.loop-page.done + c.min.result))
-        pos c.requires.some refl refl c.loop-page.invariant.first (omega (arith, c.loop-page-test.true)) c.loop-page.invariant.reached refl c.min.ensures refl refl
+    part : IsPiece c.geometry-sizes.result.block_size c.args.at c.args.from.now c.loop-page.done
+        (c.loop-page.done + c.min.result) c.loop-page.page inside
+        (slice_range c.args.from.now c.loop-page.done (c.loop-page.done + c.min.result))
+    part = is-piece c.geometry-sizes.result.block_size c.args.at c.args.from.now c.loop-page.done c.loop-page.page
+        (c.args.at / c.geometry-sizes.result.block_size) ((c.args.at + length c.args.from.now - 1) / c.geometry-sizes.result.block_size)
+        inside c.min.result (c.loop-page.done + c.min.result)
+        (slice_range c.args.from.now c.loop-page.done (c.loop-page.done + c.min.result))
+        pos c.requires.some refl refl c.loop-page.invariant.first (omega (arith, c.loop-page-test.true)) c.loop-page.invariant.reached refl
+        c.min.ensures refl refl
 
 pub returns-clause-need : goal.returns-clause-need
 returns-clause-need g c =
-    need-done (g.S.Stake.origin c.args.inode.now.stake).sizes c.geometry-sizes.result.block_size c.args.at (length c.args.from.now) (c.loop-page.page - c.args.at / c.geometry-sizes.result.block_size) (length c.args.from.now) (c.args.at / c.geometry-sizes.result.block_size) (length c.loop-page.supplies.cuts.items) (length c.args.supplies.now.cuts.items)
-    (g.S.Stake.held c.args.inode.now.stake) (g.S.Stake.held c.loop-page.inode.stake) c.args.inode.now.body.addresses c.loop-page.inode.body.addresses c.loop-page.page
+    need-done (g.S.Stake.origin c.args.inode.now.stake).sizes c.geometry-sizes.result.block_size c.args.at (length c.args.from.now)
+    (c.loop-page.page - c.args.at / c.geometry-sizes.result.block_size) (length c.args.from.now)
+    (c.args.at / c.geometry-sizes.result.block_size) (length c.loop-page.supplies.cuts.items) (length c.args.supplies.now.cuts.items)
+    (g.S.Stake.held c.args.inode.now.stake) (g.S.Stake.held c.loop-page.inode.stake) c.args.inode.now.body.addresses
+    c.loop-page.inode.body.addresses c.loop-page.page
     (size_some _ c.geometry-sizes.ensures.sizes) (ap (λ q. q.block_size) c.geometry-sizes.ensures.value) c.requires.some refl
-    (let P : ℕ → Type 0 = λ q. IsReached c.geometry-sizes.result.block_size c.args.at (length c.args.from.now) (c.loop-page.page - c.args.at / c.geometry-sizes.result.block_size) q in
-    subst P (all-done c.geometry-sizes.result.block_size c.args.at (length c.args.from.now) (c.loop-page.page - c.args.at / c.geometry-sizes.result.block_size) c.loop-page.done (c.args.at / c.geometry-sizes.result.block_size) ((c.args.at + length c.args.from.now - 1) / c.geometry-sizes.result.block_size) c.loop-page.page (size_some _ c.geometry-sizes.ensures.sizes) c.requires.some refl refl refl (omega (arith, c.loop-page-test.false)) c.loop-page.invariant.reached) c.loop-page.invariant.reached)
-    (omega (arith, c.loop-page.auto.page-end, first-count c.geometry-sizes.result.block_size c.args.at (size_some _ c.geometry-sizes.ensures.sizes) (length c.args.from.now) c.requires.some)) (c.loop-page.invariant.needs 0 (omega (arith, c.loop-page.auto.page-end, first-count c.geometry-sizes.result.block_size c.args.at (size_some _ c.geometry-sizes.ensures.sizes) (length c.args.from.now) c.requires.some)))
+    (let P : ℕ → Type 0 = λ q. IsReached c.geometry-sizes.result.block_size c.args.at (length c.args.from.now)
+    (c.loop-page.page - c.args.at / c.geometry-sizes.result.block_size) q in
+    subst P (all-done c.geometry-sizes.result.block_size c.args.at (length c.args.from.now)
+    (c.loop-page.page - c.args.at / c.geometry-sizes.result.block_size) c.loop-page.done
+    (c.args.at / c.geometry-sizes.result.block_size) ((c.args.at + length c.args.from.now - 1) / c.geometry-sizes.result.block_size)
+    c.loop-page.page (size_some _ c.geometry-sizes.ensures.sizes) c.requires.some refl refl refl
+    (omega (arith, c.loop-page-test.false)) c.loop-page.invariant.reached) c.loop-page.invariant.reached)
+    (omega (
+      arith,
+      c.loop-page.auto.page-end,
+      first-count c.geometry-sizes.result.block_size c.args.at
+          (size_some _ c.geometry-sizes.ensures.sizes) (length c.args.from.now) c.requires.some,
+    ))
+    (c.loop-page.invariant.needs 0
+    (omega (
+      arith,
+      c.loop-page.auto.page-end,
+      first-count c.geometry-sizes.result.block_size c.args.at
+          (size_some _ c.geometry-sizes.ensures.sizes) (length c.args.from.now) c.requires.some,
+    )))

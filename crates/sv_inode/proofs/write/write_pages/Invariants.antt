@@ -15,14 +15,21 @@ invariant-loop-page g l = record {
   first : l.first ≤ l.page;
   reached : IsReached l.sizes.block_size l.at (length l.from) (l.page - l.first) l.done;
   node : (node : Node) → StandsFor (g.S.Stake.origin l.fn.inode.stake) (g.S.Stake.held l.fn.inode.stake) l.fn.inode.body node
-      → StandsFor (g.S.Stake.origin l.inode.stake) (g.S.Stake.held l.inode.stake) l.inode.body (put l.sizes.block_size node l.at (take l.done l.from));
-  cuts : (h : Held) → CanFreeAll g.S.Stake.held g.S.Stake.lent g.S.Stake.origin g.S.Stake.forced (g.S.Stake.origin l.fn.inode.stake) h (g.S.Stake.held l.fn.inode.stake) l.fn.supplies.cuts.items
-      → Uses g.S.Stake.held g.S.Stake.lent g.S.Stake.origin g.S.Stake.forced (g.S.Stake.origin l.fn.inode.stake) h (g.S.Stake.held l.fn.inode.stake) (g.S.Stake.held l.inode.stake) l.fn.supplies.cuts.items l.supplies.cuts.items;
-  needs : (n : ℕ) → l.page + n ≤ l.last + 1 → need_of (g.S.Stake.origin l.fn.inode.stake).sizes (g.S.Stake.held l.fn.inode.stake) l.fn.inode.body.addresses l.first (l.page - l.first + n) + length l.supplies.cuts.items
-      ≡ need_of (g.S.Stake.origin l.fn.inode.stake).sizes (g.S.Stake.held l.inode.stake) l.inode.body.addresses l.page n + length l.fn.supplies.cuts.items;
+      → StandsFor (g.S.Stake.origin l.inode.stake) (g.S.Stake.held l.inode.stake) l.inode.body
+      (put l.sizes.block_size node l.at (take l.done l.from));
+  cuts : (h : Held) → CanFreeAll g.S.Stake.held g.S.Stake.lent g.S.Stake.origin g.S.Stake.forced (g.S.Stake.origin l.fn.inode.stake) h
+      (g.S.Stake.held l.fn.inode.stake) l.fn.supplies.cuts.items
+      → Uses g.S.Stake.held g.S.Stake.lent g.S.Stake.origin g.S.Stake.forced (g.S.Stake.origin l.fn.inode.stake) h
+      (g.S.Stake.held l.fn.inode.stake) (g.S.Stake.held l.inode.stake) l.fn.supplies.cuts.items l.supplies.cuts.items;
+  needs : (n : ℕ) → l.page + n ≤ l.last + 1
+      → need_of (g.S.Stake.origin l.fn.inode.stake).sizes (g.S.Stake.held l.fn.inode.stake) l.fn.inode.body.addresses l.first
+      (l.page - l.first + n) + length l.supplies.cuts.items
+      ≡ need_of (g.S.Stake.origin l.fn.inode.stake).sizes (g.S.Stake.held l.inode.stake) l.inode.body.addresses l.page n
+      + length l.fn.supplies.cuts.items;
   only : (n : ℕ) → HoldsOnly (g.S.Stake.origin l.fn.inode.stake) (g.S.Stake.held l.fn.inode.stake) n l.fn.inode.body.addresses
       → HoldsOnly (g.S.Stake.origin l.fn.inode.stake) (g.S.Stake.held l.inode.stake) n l.inode.body.addresses;
-  before : (b k : ℕ) → b < (g.S.Stake.origin l.fn.inode.stake).sizes.first_data → IsSome (g.S.Stake.held l.fn.inode.stake b k) → g.S.Stake.held l.inode.stake b k ≡ g.S.Stake.held l.fn.inode.stake b k;
+  before : (b k : ℕ) → b < (g.S.Stake.origin l.fn.inode.stake).sizes.first_data → IsSome (g.S.Stake.held l.fn.inode.stake b k)
+      → g.S.Stake.held l.inode.stake b k ≡ g.S.Stake.held l.fn.inode.stake b k;
   rooms : l.last + 1 ≤ length l.supplies.rooms.items + l.page;
   empty : All (λ room. room.items ≡ []) l.supplies.rooms.items;
   roomy : All (λ room. 4 ≤ vec_capacity room) l.supplies.rooms.items;

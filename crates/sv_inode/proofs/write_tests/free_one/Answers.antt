@@ -10,44 +10,60 @@ use Rattle.sv_super.proofs.Writes.{cut-apart, holds-alone}
 use Rattle.sv_inode.proofs.write_tests.free_one.Goals as goal
 
 pub part-requires : goal.part-requires
-part-requires g c = source-part c.args.b (record { block = c.args.b; first = 0; count = 16 }) c.requires.source c.requires.in_data (omega arith) refl refl refl
+part-requires g c = source-part c.args.b (record { block = c.args.b; first = 0; count = 16 }) c.requires.source c.requires.in_data
+    (omega arith) refl refl refl
 
 pub free-requires-clause-block : goal.free-requires-clause-block
 free-requires-clause-block g c _ _ = holds-alone c.args.b (cut.1) (c.requires.source.whole c.args.b c.requires.in_data (omega arith))
   where
-    cut : (g.S.Stake.held c.part.new.self ≡ less c.args.b (g.S.Stake.held c.args.source.now)) × (g.S.Stake.held c.in_ok-part.part ≡ alone c.args.b (g.S.Stake.held c.args.source.now))
+    cut : (g.S.Stake.held c.part.new.self ≡ less c.args.b (g.S.Stake.held c.args.source.now))
+        × (g.S.Stake.held c.in_ok-part.part ≡ alone c.args.b (g.S.Stake.held c.args.source.now))
     cut =
-        cut-apart (g.S.Stake.origin c.args.source.now) (g.S.Stake.held c.args.source.now) c.args.b (record { block = c.args.b; first = 0; count = 16 })
+        cut-apart (g.S.Stake.origin c.args.source.now) (g.S.Stake.held c.args.source.now) c.args.b
+        (record { block = c.args.b; first = 0; count = 16 })
         (let P : Geometry → Type 0 = IsGeometry in subst P c.geometry-sizes.ensures.value c.geometry-sizes.ensures.sizes)
-        (let P : Geometry → Type 0 = λ q. InRange q (g.S.Stake.held c.args.source.now) in subst P c.geometry-sizes.ensures.value c.geometry-sizes.ensures.range) refl refl
+        (let P : Geometry → Type 0 = λ q. InRange q (g.S.Stake.held c.args.source.now) in subst P c.geometry-sizes.ensures.value
+        c.geometry-sizes.ensures.range) refl refl
         (sym (ap (λ q. block_lines q.sizes) c.requires.source.home ∙ ap block_lines c.requires.source.sizes)) c.in_ok-part.ensures.ok
 
 pub free-requires-clause-apart : goal.free-requires-clause-apart
 free-requires-clause-apart g c _ _ = alone-apart c.args.b c.requires.source.apart (cut.1)
   where
-    cut : (g.S.Stake.held c.part.new.self ≡ less c.args.b (g.S.Stake.held c.args.source.now)) × (g.S.Stake.held c.in_ok-part.part ≡ alone c.args.b (g.S.Stake.held c.args.source.now))
+    cut : (g.S.Stake.held c.part.new.self ≡ less c.args.b (g.S.Stake.held c.args.source.now))
+        × (g.S.Stake.held c.in_ok-part.part ≡ alone c.args.b (g.S.Stake.held c.args.source.now))
     cut =
-        cut-apart (g.S.Stake.origin c.args.source.now) (g.S.Stake.held c.args.source.now) c.args.b (record { block = c.args.b; first = 0; count = 16 })
+        cut-apart (g.S.Stake.origin c.args.source.now) (g.S.Stake.held c.args.source.now) c.args.b
+        (record { block = c.args.b; first = 0; count = 16 })
         (let P : Geometry → Type 0 = IsGeometry in subst P c.geometry-sizes.ensures.value c.geometry-sizes.ensures.sizes)
-        (let P : Geometry → Type 0 = λ q. InRange q (g.S.Stake.held c.args.source.now) in subst P c.geometry-sizes.ensures.value c.geometry-sizes.ensures.range) refl refl
+        (let P : Geometry → Type 0 = λ q. InRange q (g.S.Stake.held c.args.source.now) in subst P c.geometry-sizes.ensures.value
+        c.geometry-sizes.ensures.range) refl refl
         (sym (ap (λ q. block_lines q.sizes) c.requires.source.home ∙ ap block_lines c.requires.source.sizes)) c.in_ok-part.ensures.ok
 
 pub returns-clause-source : goal.returns-clause-source
-returns-clause-source g c = source-less c.args.b c.requires.source c.requires.in_data c.free.ensures.lines (cut.1) (cut.0) c.free.ensures.origin c.part.ensures.origin c.part.ensures.lends
+returns-clause-source g c = source-less c.args.b c.requires.source c.requires.in_data c.free.ensures.lines (cut.1)
+    (cut.0) c.free.ensures.origin c.part.ensures.origin c.part.ensures.lends
   where
-    cut : (g.S.Stake.held c.part.new.self ≡ less c.args.b (g.S.Stake.held c.args.source.now)) × (g.S.Stake.held c.in_ok-part.part ≡ alone c.args.b (g.S.Stake.held c.args.source.now))
+    cut : (g.S.Stake.held c.part.new.self ≡ less c.args.b (g.S.Stake.held c.args.source.now))
+        × (g.S.Stake.held c.in_ok-part.part ≡ alone c.args.b (g.S.Stake.held c.args.source.now))
     cut =
-        cut-apart (g.S.Stake.origin c.args.source.now) (g.S.Stake.held c.args.source.now) c.args.b (record { block = c.args.b; first = 0; count = 16 })
+        cut-apart (g.S.Stake.origin c.args.source.now) (g.S.Stake.held c.args.source.now) c.args.b
+        (record { block = c.args.b; first = 0; count = 16 })
         (let P : Geometry → Type 0 = IsGeometry in subst P c.geometry-sizes.ensures.value c.geometry-sizes.ensures.sizes)
-        (let P : Geometry → Type 0 = λ q. InRange q (g.S.Stake.held c.args.source.now) in subst P c.geometry-sizes.ensures.value c.geometry-sizes.ensures.range) refl refl
+        (let P : Geometry → Type 0 = λ q. InRange q (g.S.Stake.held c.args.source.now) in subst P c.geometry-sizes.ensures.value
+        c.geometry-sizes.ensures.range) refl refl
         (sym (ap (λ q. block_lines q.sizes) c.requires.source.home ∙ ap block_lines c.requires.source.sizes)) c.in_ok-part.ensures.ok
 
 pub returns-clause-line : goal.returns-clause-line
-returns-clause-line g c = ap (λ q. is_some (q 2 2)) (cut.0) ∙ (ap (λ q. is_some (q 2)) (less-other c.args.b 2 (g.S.Stake.held c.args.source.now) (λ same. absurd (omega (arith, same, c.requires.in_data)))) ∙ c.requires.line)
+returns-clause-line g c = ap (λ q. is_some (q 2 2)) (cut.0)
+    ∙ (ap (λ q. is_some (q 2))
+    (less-other c.args.b 2 (g.S.Stake.held c.args.source.now) (λ same. absurd (omega (arith, same, c.requires.in_data)))) ∙ c.requires.line)
   where
-    cut : (g.S.Stake.held c.part.new.self ≡ less c.args.b (g.S.Stake.held c.args.source.now)) × (g.S.Stake.held c.in_ok-part.part ≡ alone c.args.b (g.S.Stake.held c.args.source.now))
+    cut : (g.S.Stake.held c.part.new.self ≡ less c.args.b (g.S.Stake.held c.args.source.now))
+        × (g.S.Stake.held c.in_ok-part.part ≡ alone c.args.b (g.S.Stake.held c.args.source.now))
     cut =
-        cut-apart (g.S.Stake.origin c.args.source.now) (g.S.Stake.held c.args.source.now) c.args.b (record { block = c.args.b; first = 0; count = 16 })
+        cut-apart (g.S.Stake.origin c.args.source.now) (g.S.Stake.held c.args.source.now) c.args.b
+        (record { block = c.args.b; first = 0; count = 16 })
         (let P : Geometry → Type 0 = IsGeometry in subst P c.geometry-sizes.ensures.value c.geometry-sizes.ensures.sizes)
-        (let P : Geometry → Type 0 = λ q. InRange q (g.S.Stake.held c.args.source.now) in subst P c.geometry-sizes.ensures.value c.geometry-sizes.ensures.range) refl refl
+        (let P : Geometry → Type 0 = λ q. InRange q (g.S.Stake.held c.args.source.now) in subst P c.geometry-sizes.ensures.value
+        c.geometry-sizes.ensures.range) refl refl
         (sym (ap (λ q. block_lines q.sizes) c.requires.source.home ∙ ap block_lines c.requires.source.sizes)) c.in_ok-part.ensures.ok

@@ -5,7 +5,14 @@ use Rattle.sv_inode.proofs.write_tests.write.Goals as goal
 
 pub writei-answer-requires-clause-left : goal.writei-answer-requires-clause-left
 writei-answer-requires-clause-left g c κs within =
-    omega (arith, c.left.ensures.left, c.if-left-lt-ENOUGH.false, twelve-pages (g.S.Stake.origin c.args.inode.now.stake).sizes (g.S.Stake.held c.args.inode.now.stake) c.args.inode.now.body.addresses (length c.args.bytes.now) c.requires.ready.sizes (omega (arith, c.if-bytes-gt-MOST.false)))
+    omega (
+      arith,
+      c.left.ensures.left,
+      c.if-left-lt-ENOUGH.false,
+      twelve-pages (g.S.Stake.origin c.args.inode.now.stake).sizes
+          (g.S.Stake.held c.args.inode.now.stake) c.args.inode.now.body.addresses (length c.args.bytes.now) c.requires.ready.sizes
+          (omega (arith, c.if-bytes-gt-MOST.false)),
+    )
 
 pub returns : goal.returns
 returns g c = record {

@@ -5,41 +5,60 @@ use Rattle.std.proofs.lemmas.List.{length-map, length-take}
 use Rattle.sv_inode.specs.Truncate.{CanFreeAll}
 use Rattle.sv_inode.specs.Write.{TakesBlocks, done_by, write_need}
 use Rattle.sv_inode.proofs.OwnLines.{only-moved, only-same}
-use Rattle.sv_inode.proofs.PutBack.{can-use, need-same, no-need, room-kept, room-unused, room-used, node-same, node-since, none-done, others-kept, stands-all, takes-apart, takes-blocks, takes-inode, takes-left, takes-none, takes-since, takes-together}
+use Rattle.sv_inode.proofs.PutBack.{can-use, need-same, no-need, room-kept, room-unused, room-used, node-same, node-since, none-done}
+use Rattle.sv_inode.proofs.PutBack.{others-kept, stands-all, takes-apart, takes-blocks, takes-inode, takes-left, takes-none, takes-since}
+use Rattle.sv_inode.proofs.PutBack.{takes-together}
 use Rattle.sv_inode.proofs.TakenFirst.{can-return}
 use Rattle.sv_inode.proofs.locked.LockedInode.writei.Goals as goal
 
 pub returns-then-is_empty-clause-node : goal.returns-then-is_empty-clause-node
-returns-then-is_empty-clause-node g c = λ node stands. node-same _ c.args.at (take (length c.args.from.now) c.args.from.now) (length-take (length c.args.from.now) c.args.from.now ∙ omega (arith, eqb-true (length c.args.from.now) 0 (sym c.is_empty.ensures ∙ c.if-is_empty.true))) stands
+returns-then-is_empty-clause-node g c = λ node stands. node-same _ c.args.at (take (length c.args.from.now) c.args.from.now)
+    (length-take (length c.args.from.now) c.args.from.now
+    ∙ omega (arith, eqb-true (length c.args.from.now) 0 (sym c.is_empty.ensures ∙ c.if-is_empty.true))) stands
 
 pub put_bytes-requires-clause-stands : goal.put_bytes-requires-clause-stands
-put_bytes-requires-clause-stands g c κs within = (c.requires.stands.0, stands-all c.prepare.ensures.stake.home c.prepare.ensures.held c.prepare.ensures.body c.requires.stands.1)
+put_bytes-requires-clause-stands g c κs within =
+    (c.requires.stands.0, stands-all c.prepare.ensures.stake.home c.prepare.ensures.held c.prepare.ensures.body c.requires.stands.1)
 
 pub put_bytes-requires-clause-cuts : goal.put_bytes-requires-clause-cuts
 put_bytes-requires-clause-cuts g c κs within = (
   g.S.Stake.held c.args.core.now.stake,
   (
-    can-use (c.prepare.ensures.stake.home ∙ sym c.requires.origin) c.prepare.ensures.held c.in-Ok.ensures.supplies.from c.in-Ok.ensures.supplies.are c.requires.apart,
+    can-use (c.prepare.ensures.stake.home ∙ sym c.requires.origin) c.prepare.ensures.held c.in-Ok.ensures.supplies.from
+        c.in-Ok.ensures.supplies.are c.requires.apart,
     can-return c.prepare.ensures.core.home c.in-Ok.ensures.supplies.from c.in-Ok.ensures.supplies.are,
   ),
 )
 
 pub returns-in-Ok-clause-node : goal.returns-in-Ok-clause-node
-returns-in-Ok-clause-node g c = λ node stands. node-since node c.args.at (take (done_by (length c.args.from.now) c.put_bytes.result) c.args.from.now) c.prepare.ensures.stake.home (c.put_bytes.ensures.node node (stands-all c.prepare.ensures.stake.home c.prepare.ensures.held c.prepare.ensures.body stands))
+returns-in-Ok-clause-node g c = λ node stands. node-since node c.args.at
+    (take (done_by (length c.args.from.now) c.put_bytes.result) c.args.from.now) c.prepare.ensures.stake.home
+    (c.put_bytes.ensures.node node (stands-all c.prepare.ensures.stake.home c.prepare.ensures.held c.prepare.ensures.body stands))
 
 pub returns-in-Err-clause-node : goal.returns-in-Err-clause-node
-returns-in-Err-clause-node g c = λ node stands. node-same _ c.args.at _ (length-take (done_by {T = Unit {0}} (length c.args.from.now) (Err c.at_once.result)) c.args.from.now ∙ omega (arith, none-done (Unit {0}) (length c.args.from.now) c.in-Err.refusal c.at_once.ensures)) (stands-all c.prepare.ensures.stake.home c.prepare.ensures.held c.prepare.ensures.body stands)
+returns-in-Err-clause-node g c = λ node stands. node-same _ c.args.at _
+    (length-take (done_by {T = Unit {0}} (length c.args.from.now) (Err c.at_once.result)) c.args.from.now
+    ∙ omega (arith, none-done (Unit {0}) (length c.args.from.now) c.in-Err.refusal c.at_once.ensures))
+    (stands-all c.prepare.ensures.stake.home c.prepare.ensures.held c.prepare.ensures.body stands)
 
 pub returns-then-is_empty-clause-moves : goal.returns-then-is_empty-clause-moves
 returns-then-is_empty-clause-moves g c = record {
-  takes = takes-none (no-need _ _ _ c.args.at (length c.args.from.now) (eqb-true (length c.args.from.now) 0 (sym c.is_empty.ensures ∙ c.if-is_empty.true))) (λ b. refl) (record { at = λ b l. refl }) refl;
-  left = omega (arith, no-need (g.S.Stake.origin c.args.self.now.stake).sizes (g.S.Stake.held c.args.self.now.stake) c.args.self.now.body.addresses c.args.at (length c.args.from.now) (eqb-true (length c.args.from.now) 0 (sym c.is_empty.ensures ∙ c.if-is_empty.true)));
+  takes = takes-none (no-need _ _ _ c.args.at (length c.args.from.now)
+      (eqb-true (length c.args.from.now) 0 (sym c.is_empty.ensures ∙ c.if-is_empty.true))) (λ b. refl) (record { at = λ b l. refl }) refl;
+  left = omega (
+    arith,
+    no-need (g.S.Stake.origin c.args.self.now.stake).sizes
+        (g.S.Stake.held c.args.self.now.stake) c.args.self.now.body.addresses c.args.at (length c.args.from.now)
+        (eqb-true (length c.args.from.now) 0 (sym c.is_empty.ensures ∙ c.if-is_empty.true)),
+  );
   together = record { at = λ b l. refl };
   others = λ b l gone. refl;
 }
 
 pub returns-then-is_empty-clause-spare : goal.returns-then-is_empty-clause-spare
-returns-then-is_empty-clause-spare g c = room-kept (no-need (g.S.Stake.origin c.args.self.now.stake).sizes (g.S.Stake.held c.args.self.now.stake) c.args.self.now.body.addresses c.args.at
+returns-then-is_empty-clause-spare g c =
+    room-kept (no-need (g.S.Stake.origin c.args.self.now.stake).sizes (g.S.Stake.held c.args.self.now.stake) c.args.self.now.body.addresses
+    c.args.at
     (length c.args.from.now) (eqb-true (length c.args.from.now) 0 (sym c.is_empty.ensures ∙ c.if-is_empty.true)))
     (no-need (g.S.Stake.origin c.args.self.now.stake).sizes (g.S.Stake.held c.args.self.now.stake) c.args.self.now.body.addresses c.args.at
     (length c.args.from.now) (eqb-true (length c.args.from.now) 0 (sym c.is_empty.ensures ∙ c.if-is_empty.true)))
@@ -55,35 +74,46 @@ returns-in-Ok-clause-moves g c = record {
   takes = takes;
   left = omega (
     arith,
-    need-same c.args.at (done_by (length c.args.from.now) c.put_bytes.result) c.prepare.ensures.stake.home c.prepare.ensures.held (ap (λ q. q.addresses) c.prepare.ensures.body),
+    need-same c.args.at (done_by (length c.args.from.now) c.put_bytes.result) c.prepare.ensures.stake.home c.prepare.ensures.held
+        (ap (λ q. q.addresses) c.prepare.ensures.body),
     takes-left c.args.core.now (c.put_bytes.ensures.back (g.S.Stake.held c.args.core.now.stake)
-        (can-use (c.prepare.ensures.stake.home ∙ sym c.requires.origin) c.prepare.ensures.held c.in-Ok.ensures.supplies.from c.in-Ok.ensures.supplies.are c.requires.apart)
-        (can-return c.prepare.ensures.core.home c.in-Ok.ensures.supplies.from c.in-Ok.ensures.supplies.are)) (omega (arith, c.in-Ok.ensures.supplies.left, length-map c.in-Ok.supplies.cuts.items (λ x. x.0))),
+        (can-use (c.prepare.ensures.stake.home ∙ sym c.requires.origin) c.prepare.ensures.held c.in-Ok.ensures.supplies.from
+        c.in-Ok.ensures.supplies.are c.requires.apart)
+        (can-return c.prepare.ensures.core.home c.in-Ok.ensures.supplies.from c.in-Ok.ensures.supplies.are))
+        (omega (arith, c.in-Ok.ensures.supplies.left, length-map c.in-Ok.supplies.cuts.items (λ x. x.0))),
   );
   together = takes-together takes;
   others = others-kept c.args.core.now (c.put_bytes.ensures.back (g.S.Stake.held c.args.core.now.stake)
-      (can-use (c.prepare.ensures.stake.home ∙ sym c.requires.origin) c.prepare.ensures.held c.in-Ok.ensures.supplies.from c.in-Ok.ensures.supplies.are c.requires.apart)
-      (can-return c.prepare.ensures.core.home c.in-Ok.ensures.supplies.from c.in-Ok.ensures.supplies.are)) c.in-Ok.ensures.supplies.from.left c.in-Ok.ensures.supplies.taken;
+      (can-use (c.prepare.ensures.stake.home ∙ sym c.requires.origin) c.prepare.ensures.held c.in-Ok.ensures.supplies.from
+      c.in-Ok.ensures.supplies.are c.requires.apart)
+      (can-return c.prepare.ensures.core.home c.in-Ok.ensures.supplies.from c.in-Ok.ensures.supplies.are))
+      c.in-Ok.ensures.supplies.from.left c.in-Ok.ensures.supplies.taken;
 }
   where
-    mine : CanFreeAll g.S.Stake.held g.S.Stake.lent g.S.Stake.origin g.S.Stake.forced (g.S.Stake.origin c.prepare.new.inode.stake) (g.S.Stake.held c.args.core.now.stake) (g.S.Stake.held c.prepare.new.inode.stake) c.in-Ok.supplies.cuts.items
-    mine = can-use (c.prepare.ensures.stake.home ∙ sym c.requires.origin) c.prepare.ensures.held c.in-Ok.ensures.supplies.from c.in-Ok.ensures.supplies.are c.requires.apart
+    mine : CanFreeAll g.S.Stake.held g.S.Stake.lent g.S.Stake.origin g.S.Stake.forced (g.S.Stake.origin c.prepare.new.inode.stake)
+        (g.S.Stake.held c.args.core.now.stake) (g.S.Stake.held c.prepare.new.inode.stake) c.in-Ok.supplies.cuts.items
+    mine = can-use (c.prepare.ensures.stake.home ∙ sym c.requires.origin) c.prepare.ensures.held c.in-Ok.ensures.supplies.from
+        c.in-Ok.ensures.supplies.are c.requires.apart
 
-    theirs : CanFreeAll g.S.Stake.held g.S.Stake.lent g.S.Stake.origin g.S.Stake.forced (g.S.Stake.origin c.prepare.new.core.stake) (g.S.Stake.held c.args.core.now.stake) (g.S.Stake.held c.prepare.new.core.stake) c.in-Ok.supplies.cuts.items
+    theirs : CanFreeAll g.S.Stake.held g.S.Stake.lent g.S.Stake.origin g.S.Stake.forced (g.S.Stake.origin c.prepare.new.core.stake)
+        (g.S.Stake.held c.args.core.now.stake) (g.S.Stake.held c.prepare.new.core.stake) c.in-Ok.supplies.cuts.items
     theirs = can-return c.prepare.ensures.core.home c.in-Ok.ensures.supplies.from c.in-Ok.ensures.supplies.are
 
     takes : TakesBlocks g.S.Stake.held (write_need (g.S.Stake.origin c.args.self.now.stake).sizes (g.S.Stake.held c.args.self.now.stake)
         c.args.self.now.body.addresses c.args.at (done_by (length c.args.from.now) c.put_bytes.result)) c.args.core.now c.put_bytes.new.core
         (g.S.Stake.held c.args.self.now.stake) (g.S.Stake.held c.put_bytes.new.inode.stake)
     takes =
-        takes-since (need-same c.args.at (done_by (length c.args.from.now) c.put_bytes.result) c.prepare.ensures.stake.home c.prepare.ensures.held (ap (λ q. q.addresses) c.prepare.ensures.body)) c.prepare.ensures.held
-        (takes-blocks (c.put_bytes.ensures.back (g.S.Stake.held c.args.core.now.stake) mine theirs) c.in-Ok.ensures.supplies.from.left c.in-Ok.ensures.supplies.taken c.in-Ok.ensures.supplies.are.once mine.apart)
+        takes-since (need-same c.args.at (done_by (length c.args.from.now) c.put_bytes.result) c.prepare.ensures.stake.home
+        c.prepare.ensures.held (ap (λ q. q.addresses) c.prepare.ensures.body)) c.prepare.ensures.held
+        (takes-blocks (c.put_bytes.ensures.back (g.S.Stake.held c.args.core.now.stake) mine theirs) c.in-Ok.ensures.supplies.from.left
+        c.in-Ok.ensures.supplies.taken c.in-Ok.ensures.supplies.are.once mine.apart)
 
 pub returns-in-Ok-clause-apart : goal.returns-in-Ok-clause-apart
 returns-in-Ok-clause-apart g c = takes-apart (returns-in-Ok-clause-moves g c).takes c.requires.apart
 
 pub returns-in-Ok-clause-inode : goal.returns-in-Ok-clause-inode
-returns-in-Ok-clause-inode g c = λ inode. takes-inode c.args.self.now.number _ (returns-in-Ok-clause-moves g c).takes (c.put_bytes.ensures.front.stake.home ∙ c.prepare.ensures.stake.home) (c.put_bytes.ensures.number ∙ c.prepare.ensures.number) inode
+returns-in-Ok-clause-inode g c = λ inode. takes-inode c.args.self.now.number _ (returns-in-Ok-clause-moves g c).takes
+    (c.put_bytes.ensures.front.stake.home ∙ c.prepare.ensures.stake.home) (c.put_bytes.ensures.number ∙ c.prepare.ensures.number) inode
 
 pub returns-in-Ok-clause-front : goal.returns-in-Ok-clause-front
 returns-in-Ok-clause-front g c = record {
@@ -94,7 +124,8 @@ returns-in-Ok-clause-front g c = record {
     no_less = omega (arith, c.put_bytes.ensures.front.stake.no_less, c.prepare.ensures.stake.no_less);
   };
   before = λ b l low is.
-      c.put_bytes.ensures.front.before b l (omega (arith, low, ap (λ q. q.sizes.first_data) c.prepare.ensures.stake.home)) (ap (λ q. is_some (q b l)) c.prepare.ensures.held ∙ is) ∙ ap (λ q. q b l) c.prepare.ensures.held;
+      c.put_bytes.ensures.front.before b l (omega (arith, low, ap (λ q. q.sizes.first_data) c.prepare.ensures.stake.home))
+      (ap (λ q. is_some (q b l)) c.prepare.ensures.held ∙ is) ∙ ap (λ q. q b l) c.prepare.ensures.held;
 }
 
 pub returns-in-Ok-clause-core : goal.returns-in-Ok-clause-core
@@ -115,7 +146,8 @@ returns-in-Ok-clause-only g c = λ n was.
 pub returns-in-Ok-clause-spare : goal.returns-in-Ok-clause-spare
 returns-in-Ok-clause-spare g c = room-used
     (c.in-Ok.ensures.spare)
-    (need-same c.args.at (length c.args.from.now) c.prepare.ensures.stake.home c.prepare.ensures.held (ap (λ q. q.addresses) c.prepare.ensures.body))
+    (need-same c.args.at (length c.args.from.now) c.prepare.ensures.stake.home c.prepare.ensures.held
+    (ap (λ q. q.addresses) c.prepare.ensures.body))
     (need-same c.args.at (done_by (length c.args.from.now) c.put_bytes.result) c.prepare.ensures.stake.home c.prepare.ensures.held
     (ap (λ q. q.addresses) c.prepare.ensures.body))
     c.put_bytes.ensures.spare
@@ -123,7 +155,14 @@ returns-in-Ok-clause-spare g c = room-used
 pub returns-in-Err-clause-moves : goal.returns-in-Err-clause-moves
 returns-in-Err-clause-moves g c = record {
   takes = takes;
-  left = omega (arith, c.in-Err.ensures.left_kept, no-need (g.S.Stake.origin c.args.self.now.stake).sizes (g.S.Stake.held c.args.self.now.stake) c.args.self.now.body.addresses c.args.at (done_by {T = Unit {0}} (length c.args.from.now) (Err c.at_once.result)) (none-done (Unit {0}) (length c.args.from.now) c.in-Err.refusal c.at_once.ensures));
+  left = omega (
+    arith,
+    c.in-Err.ensures.left_kept,
+    no-need (g.S.Stake.origin c.args.self.now.stake).sizes
+        (g.S.Stake.held c.args.self.now.stake) c.args.self.now.body.addresses c.args.at
+        (done_by {T = Unit {0}} (length c.args.from.now) (Err c.at_once.result))
+        (none-done (Unit {0}) (length c.args.from.now) c.in-Err.refusal c.at_once.ensures),
+  );
   together = takes-together takes;
   others = c.in-Err.ensures.back.others;
 }
@@ -131,7 +170,8 @@ returns-in-Err-clause-moves g c = record {
     takes : TakesBlocks g.S.Stake.held (write_need (g.S.Stake.origin c.args.self.now.stake).sizes (g.S.Stake.held c.args.self.now.stake)
         c.args.self.now.body.addresses c.args.at (done_by {T = Unit {0}} (length c.args.from.now) (Err c.at_once.result))) c.args.core.now
         c.prepare.new.core (g.S.Stake.held c.args.self.now.stake) (g.S.Stake.held c.prepare.new.inode.stake)
-    takes = takes-none (no-need _ _ _ c.args.at _ (none-done (Unit {0}) (length c.args.from.now) c.in-Err.refusal c.at_once.ensures)) c.in-Err.ensures.back.each c.in-Err.ensures.back.lines c.prepare.ensures.held
+    takes = takes-none (no-need _ _ _ c.args.at _ (none-done (Unit {0}) (length c.args.from.now) c.in-Err.refusal c.at_once.ensures))
+        c.in-Err.ensures.back.each c.in-Err.ensures.back.lines c.prepare.ensures.held
 
 pub returns-in-Err-clause-apart : goal.returns-in-Err-clause-apart
 returns-in-Err-clause-apart g c = takes-apart (returns-in-Err-clause-moves g c).takes c.requires.apart
@@ -148,4 +188,5 @@ returns-in-Err-clause-only g c = λ n was. only-same c.prepare.ensures.held (ap 
 pub returns-in-Err-clause-spare : goal.returns-in-Err-clause-spare
 returns-in-Err-clause-spare g c = room-unused c.in-Err.ensures.spare_kept
     (no-need (g.S.Stake.origin c.args.self.now.stake).sizes (g.S.Stake.held c.args.self.now.stake) c.args.self.now.body.addresses c.args.at
-    (done_by {T = Unit {0}} (length c.args.from.now) (Err c.at_once.result)) (none-done (Unit {0}) (length c.args.from.now) c.in-Err.refusal c.at_once.ensures))
+    (done_by {T = Unit {0}} (length c.args.from.now) (Err c.at_once.result))
+    (none-done (Unit {0}) (length c.args.from.now) c.in-Err.refusal c.at_once.ensures))
