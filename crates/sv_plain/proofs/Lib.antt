@@ -41,6 +41,7 @@ pub mod KeepsWrite
 pub mod MadeDirectory
 pub mod MadeSteps
 pub mod NameEntries
+pub mod NameNotes
 pub mod PagesPut
 pub mod LastHolder
 pub mod LowestUnused

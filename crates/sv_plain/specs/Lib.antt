@@ -10,6 +10,7 @@ pub mod Keeping
 pub mod Laws
 pub mod Listing
 pub mod Missing
+pub mod NameIndex
 pub mod Names
 pub mod Needs
 pub mod NeedsWithin

@@ -96,8 +96,10 @@ impl Fs {
         ensures refused { OnErr result (self.new ≡ self.old) }
     {
         let key = u32::from(n);
-        self.nodes
-            .insert(key, Node::new(alloc, kind, mode, links, size))?;
+        self.nodes.insert(
+            key,
+            Node::made(alloc, self.block_size, kind, mode, links, size),
+        )?;
         let Ok(()) = self.blocks.insert(key, PairSet::new(alloc)) else {
             self.nodes.remove(key);
             return Err(NoMemory);

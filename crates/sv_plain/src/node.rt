@@ -11,7 +11,9 @@ mod pages;
 mod writes;
 
 use crate::blocks::put_page_blocks;
-use crate::{NoMemory, NumberMap, PairSet};
+use crate::pages::Pages;
+use crate::{NoMemory, PairSet};
+pub(crate) use entries::byte_of_page;
 use std::alloc::Global;
 use std::marker::Model;
 use sv_form::{Bytes, Kind};
@@ -25,7 +27,7 @@ pub struct Node {
     pub mode: u16,
     pub links: u16,
     pub size: u32,
-    pages: NumberMap<Bytes>,
+    pages: Pages,
 }
 
 impl Model for Node {
@@ -48,17 +50,34 @@ impl Node {
             mode,
             links,
             size,
-            pages: NumberMap::new(alloc),
+            pages: Pages::new(alloc),
+        }
+    }
+
+    /// A node without pages, which are to come. A block has so many bytes.
+    pub(crate) fn made(
+        alloc: Global,
+        block: u32,
+        kind: Kind,
+        mode: u16,
+        links: u16,
+        size: u32,
+    ) -> Node
+        ensures { result ≡ record { kind = kind; mode = mode; links = links; size = size; pages = map.empty } }
+    {
+        Node {
+            kind,
+            mode,
+            links,
+            size,
+            pages: Pages::of_kind(alloc, block, kind),
         }
     }
 
     pub fn page(&self, page: u32) -> Option<&[u8]>
         ensures { option_copied result ≡ map.get self.now.pages page }
     {
-        match self.pages.get(page) {
-            Some(bytes) => Some(bytes.as_slice()),
-            None => None,
-        }
+        self.pages.get(page)
     }
 
     /// How many pages are present.

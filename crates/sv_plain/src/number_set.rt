@@ -1,5 +1,5 @@
 // A set of numbers, kept in a tree.
-ghost use Rattle.std.specs.Prelude.{ℕ, ◌≡◌, true, false, IsOk, IfSome, IfNone, OnOk, OnErr, if◌then◌else◌};
+ghost use Rattle.std.specs.Prelude.{ℕ, ◌≡◌, ◌≤◌, true, false, IsOk, IfSome, IfNone, OnOk, OnErr, if◌then◌else◌};
 ghost use Rattle.std.specs.FinSet as set;
 
 use crate::NoMemory;
@@ -37,6 +37,7 @@ impl NumberSet {
     /// The least member.
     pub(crate) fn first(&self) -> Option<u32>
         ensures some { IfSome result (λ n. set.contains self.now n ≡ true) }
+        ensures least { IfSome result (λ n. (k : ℕ) → set.contains self.now k ≡ true → n ≤ k) }
         ensures none { IfNone result ((n : ℕ) → set.contains self.now n ≡ false) }
     {
         match self.tree.first() {

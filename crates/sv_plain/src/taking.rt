@@ -13,7 +13,8 @@ use std::alloc::Global;
 /// `Illegal::Condition` where the op may not be asked now, `Illegal::Reply` where it may be asked and is never answered
 /// so, and `Illegal::NoMemory` where the step is legal and there is no memory for it: then all is as before. A purge that
 /// came late is taken as one in which no node went. The cost is that of what the step touches: the pages of its range, of a
-/// promise no more than are present or there is room for, the entries of one directory, a logarithm in the nodes.
+/// promise no more than are present or there is room for, one page of a directory and a logarithm in its names, or its entries
+/// where it goes or has no index, a logarithm in the nodes.
 pub fn apply(alloc: Global, fs: &mut Fs, process: u8, op: &Op, reply: &Reply) -> Result<(), Illegal>
     requires { IsWhole fs.old }
     ensures step { OnOk result (Step fs.old process op.now reply.now fs.new) }

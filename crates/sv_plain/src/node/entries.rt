@@ -1,5 +1,5 @@
 // The bytes of a node, and the entries of a directory among them.
-ghost use Rattle.std.specs.Prelude.{◌≡◌, ◌<◌, ◌≤◌, ◌+◌, ◌*◌, not, drop, option_copied};
+ghost use Rattle.std.specs.Prelude.{◌≡◌, ◌<◌, ◌≤◌, ◌+◌, ◌*◌, ◌==◌, ℕ, true, false, not, drop, Some, IfSome, option_copied};
 ghost use Rattle.std.specs.FinMap as map;
 ghost use Rattle.sv_form.specs.Node.{page_byte, byte_of, bytes_of, until_zero, entry_inode, entry_name, entry_count};
 ghost use Rattle.sv_plain.specs.Names.{same_bytes, is_entry, place_of, empty_place, child_of, has_more};
@@ -161,8 +161,8 @@ impl Node {
         self.inode_near(number, page, block, j) != 0 && self.has_name(number, page, block, j, name)
     }
 
-    // The first entry with this name.
-    pub(crate) fn place_of(&self, block: u32, name: &[u8]) -> Option<u32>
+    // The first entry with this name, looked for among all.
+    fn place_among(&self, block: u32, name: &[u8]) -> Option<u32>
         requires { 0 < block }
         ensures { result ≡ place_of block self.now name.now }
     {
@@ -176,13 +176,65 @@ impl Node {
         None
     }
 
-    // The first empty entry.
+    // Where the index has this name, if there is one.
+    fn indexed_place(&self, block: u32, name: &[u8]) -> Option<Option<u32>>
+        requires { 0 < block }
+        ensures { IfSome result (λ place. (j : ℕ) → is_entry block self.now name.now j ≡ true → place ≡ Some j) }
+    {
+        if block % ENTRY != 0 {
+            return None;
+        }
+        self.pages.place(block / ENTRY, name)
+    }
+
+    // The place, where this name stands there: it stands at no other.
+    fn place_if(&self, block: u32, name: &[u8], place: Option<u32>) -> Option<u32>
+        requires some { 0 < block }
+        requires only { (j : ℕ) → is_entry block self.now name.now j ≡ true → place ≡ Some j }
+        ensures { result ≡ place_of block self.now name.now }
+    {
+        let Some(j) = place else {
+            return None;
+        };
+        if j >= self.entry_count() {
+            return None;
+        }
+        let near = self.page_of_entry(0, self.page(0), block, j);
+        if !self.is_entry(near.0, near.1, block, j, name) {
+            return None;
+        }
+        Some(j)
+    }
+
+    // The first entry with this name. With an index of the names this costs a logarithm.
+    pub(crate) fn place_of(&self, block: u32, name: &[u8]) -> Option<u32>
+        requires { 0 < block }
+        ensures { result ≡ place_of block self.now name.now }
+    {
+        match self.indexed_place(block, name) {
+            Some(place) => self.place_if(block, name, place),
+            None => self.place_among(block, name),
+        }
+    }
+
+    // No entry before this one is empty.
+    fn full_before(&self, block: u32) -> u32
+        requires { 0 < block }
+        ensures { (k : ℕ) → k < result → (entry_inode block self.now k == 0) ≡ false }
+    {
+        if block % ENTRY != 0 {
+            return 0;
+        }
+        self.pages.first_empty(block / ENTRY)
+    }
+
+    // The first empty entry. With an index of the names it is the first one that is looked at.
     pub(crate) fn empty_place(&self, block: u32) -> Option<u32>
         requires { 0 < block }
         ensures { result ≡ empty_place block self.now }
     {
         let mut near = (0, self.page(0));
-        for j in 0..self.entry_count() {
+        for j in self.full_before(block)..self.entry_count() {
             near = self.page_of_entry(near.0, near.1, block, j);
             if self.inode_near(near.0, near.1, block, j) == 0 {
                 return Some(j);

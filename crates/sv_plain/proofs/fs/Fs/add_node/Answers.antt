@@ -11,9 +11,9 @@ invariant_of-self-in-Ok c =
     let a = c.self.inside in
     let absent : map.get a.nodes c.args.n ≡ None = ap (λ (fs : Fs). map.get fs.nodes c.args.n) c.self.view_is ∙ c.requires.absent in
     let nodes : c.insert.new.self ≡ map.insert a.nodes c.args.n (node_without_pages c.args.kind c.args.mode c.args.links c.args.size) =
-    c.in_ok-insert.ensures.put ∙ (λ i. map.insert a.nodes (c.from-key.ensures i) (c.new.ensures i)) in
+    c.in_ok-insert.ensures.put ∙ (λ i. map.insert a.nodes (c.from-key.ensures i) (c.made.ensures i)) in
     let blocks : c.insert-2.new.self ≡ map.insert a.blocks c.args.n set.empty =
-    c.in-Ok.ensures.put ∙ (λ i. map.insert a.blocks (c.from-key.ensures i) (c.new-2.ensures i)) in
+    c.in-Ok.ensures.put ∙ (λ i. map.insert a.blocks (c.from-key.ensures i) (c.new.ensures i)) in
     rw (nodes, blocks) (kept-add_node a c.args.n c.args.kind c.args.mode c.args.links c.args.size absent c.self.invariant)
 
 pub invariant_of-self-in_default : goal.invariant_of-self-in_default
@@ -22,7 +22,7 @@ invariant_of-self-in_default c =
     let absent : map.get a.nodes c.args.n ≡ None = ap (λ (fs : Fs). map.get fs.nodes c.args.n) c.self.view_is ∙ c.requires.absent in
     let key : c.from-key.result ≡ c.args.n = c.from-key.ensures in
     let nodes : c.remove.new.self ≡ a.nodes =
-    c.remove.ensures ∙ (λ i. map.remove (c.in_ok-insert.ensures.put i) c.from-key.result) ∙ kept-undone a c.from-key.result c.new.result (ap (map.get a.nodes) key ∙ absent) in
+    c.remove.ensures ∙ (λ i. map.remove (c.in_ok-insert.ensures.put i) c.from-key.result) ∙ kept-undone a c.from-key.result c.made.result (ap (map.get a.nodes) key ∙ absent) in
     rw (nodes, c.in_default.ensures.refused) c.self.invariant
 
 pub returns-in_default-clause-refused : goal.returns-in_default-clause-refused
@@ -31,5 +31,5 @@ returns-in_default-clause-refused c =
     let absent : map.get a.nodes c.args.n ≡ None = ap (λ (fs : Fs). map.get fs.nodes c.args.n) c.self.view_is ∙ c.requires.absent in
     let key : c.from-key.result ≡ c.args.n = c.from-key.ensures in
     let nodes : c.remove.new.self ≡ a.nodes =
-    c.remove.ensures ∙ (λ i. map.remove (c.in_ok-insert.ensures.put i) c.from-key.result) ∙ kept-undone a c.from-key.result c.new.result (ap (map.get a.nodes) key ∙ absent) in
+    c.remove.ensures ∙ (λ i. map.remove (c.in_ok-insert.ensures.put i) c.from-key.result) ∙ kept-undone a c.from-key.result c.made.result (ap (map.get a.nodes) key ∙ absent) in
     ap (λ nodes. record (fs_of a) { nodes = nodes }) nodes ∙ c.self.view_is

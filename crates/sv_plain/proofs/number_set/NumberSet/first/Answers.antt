@@ -1,5 +1,6 @@
 use Rattle.std.proofs.Common.{◌≡◌, ◌<◌, ℕ, inl, inr, true, false, sym, ap, ◌∙◌, arith}
 use Rattle.std.proofs.lemmas.Bool.{false≢true, cases_lt}
+use Rattle.std.proofs.lemmas.Map.Keys.{le_from_not_gt}
 use Rattle.std.specs.Cmp.{nat_cmp_total}
 use Rattle.std.specs.BTreeSet as bag
 use Rattle.std.specs.FinSet as set
@@ -19,3 +20,8 @@ returns-in-None-clause-none c = λ n.
       | inr none ↦ omega (arith, none)
     ] in
     ap (λ s. set.contains s n) (sym c.self.view_is) ∙ shown_set-none nat_cmp_total c.self.inside.tree n empty)
+
+pub returns-in-Some-clause-least : goal.returns-in-Some-clause-least
+returns-in-Some-clause-least c = λ k h.
+    le_from_not_gt c.in-Some.number.now k
+    (c.in-Some.ensures.least k (sym (shown_set-contains nat_cmp_total c.self.inside.tree k) ∙ ap (λ s. set.contains s k) c.self.view_is ∙ h))

@@ -1,7 +1,7 @@
 use Rattle.std.proofs.Common.{option_copied, ◌≡◌, ℕ, ◌<◌, false}
 use Rattle.std.specs.FinMap as map
 use Rattle.sv_plain.specs.Names.{is_entry}
-use Rattle.sv_plain.proofs.node.Node.place_of.Given as goal
+use Rattle.sv_plain.proofs.node.Node.place_among.Given as goal
 
 abbrev pub invariant-loop-j : goal.invariant-loop-j
 invariant-loop-j l = record {

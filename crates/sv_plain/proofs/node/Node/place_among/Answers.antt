@@ -2,7 +2,7 @@ use Rattle.std.proofs.Common.{◌≡◌, ◌<◌, true, sym, ◌∙◌, arith}
 use Rattle.sv_form.specs.Node.{entry_count}
 use Rattle.sv_plain.specs.Names.{is_entry, place_of}
 use Rattle.sv_plain.proofs.Places.{first_place, no_place}
-use Rattle.sv_plain.proofs.node.Node.place_of.Goals as goal
+use Rattle.sv_plain.proofs.node.Node.place_among.Goals as goal
 
 pub returns-then-is_entry : goal.returns-then-is_entry
 unfolding place_of
