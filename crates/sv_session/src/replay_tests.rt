@@ -1,8 +1,10 @@
 // Journals over a new image, by the program over the forms in memory.
+ghost use Rattle.std.specs.Prelude.{◌≡◌, ◌≢◌, List, ℕ, Option, Some, IsNone, IsSome};
+
 mod replies;
 
-use crate::tests;
 use crate::tests::made_images::new_image;
+use crate::{replay_image, tests};
 use std::alloc::{AllocError, Global};
 use std::fs::File;
 use std::process::Abort;
@@ -10,7 +12,7 @@ use std::rt::Files;
 use std::sync::Wait;
 use std::test::Fail as Failure;
 use std::thread::Threads;
-use sv_dev::{Fail, MemHost};
+use sv_dev::{Fail, Host, MemHost, MemSink, Sink};
 
 // What a run wrote that makes a directory and a file, writes, reads and looks at it.
 const WORKED: [&str; 29] = [
@@ -150,6 +152,35 @@ fn lines_that_do_not_read(rt: HostRuntime) -> Result<(), Failure> {
         "",
         "svfs: journal line 1 refused\n",
     )
+}
+
+// A host that tells its texts, and has none under any name: whatever else it does, `replay` is not done.
+fn replay_of_nothing<R: Files<File = File>, H: Host, O: Sink>(
+    rt: &R,
+    alloc: Global,
+    host: &mut H,
+    out: &mut O,
+    note: &mut O,
+) -> u8
+    requires images { IsSome (H.images host.old) }
+    requires texts { (under : List ℕ → Option (List ℕ)) × (H.texts host.old ≡ Some under) × ((name : List ℕ) → IsNone (under name)) }
+    ensures { result ≢ 0 }
+{
+    replay_image(rt, alloc, host, "A", "J", out, note)
+}
+
+#[test]
+fn journal_that_is_not_there(rt: HostRuntime) -> Result<(), Failure> {
+    let alloc = rt.alloc();
+    let mut host = MemHost::new(Vec::new(alloc));
+    host.put_image("A", new_image(alloc)?, Vec::new(alloc))?;
+    let mut out = MemSink::new(Vec::new(alloc));
+    let mut note = MemSink::new(Vec::new(alloc));
+    let status = replay_of_nothing(&rt, alloc, &mut host, &mut out, &mut note);
+    assert_eq!(rt; status, 5);
+    assert_eq!(rt; out.written(), b"".as_slice());
+    assert_eq!(rt; note.written(), b"svfs: file fault\n".as_slice());
+    Ok(())
 }
 
 // `out` fails at its first write, which is the whole listing; there is no second.

@@ -1,6 +1,7 @@
 // The program over the forms in memory.
 ghost use Rattle.std.specs.Prelude.{◌+◌, ◌<◌, ◌^◌, length};
 
+mod deep_file;
 pub(crate) mod made_images;
 
 use crate::cat::cat_disk;

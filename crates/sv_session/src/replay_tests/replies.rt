@@ -1,6 +1,8 @@
-//! A journal in which each op has the replies that it can have without a device fault, but for those that want as many links as
-//! there can be, or a directory whose next entry has no room.
+//! Journals in which each op has each reply that it can have without a device fault.
+ghost use Rattle.std.specs.Prelude.{◌≤◌};
+
 use super::tests;
+use std::alloc::{AllocError, Global};
 use std::fs::File;
 use std::process::Abort;
 use std::rt::Files;
@@ -9,7 +11,8 @@ use std::test::Fail as Failure;
 use std::thread::Threads;
 use sv_dev::MemHost;
 
-// Three processes over an image of 16 blocks and 16 inodes, with a table of four places.
+// Three processes over an image of 16 blocks and 16 inodes, with a table of four places. What is missing here is in the
+// journal below: directories and files with the most links, and a directory whose next entry has no room.
 const REPLIES: &str = "svj 1 3 4
 1 promise make 2 64 = granted 1
 1 create 2 64 d 755 = made 3
@@ -188,4 +191,99 @@ fn leads_to<R: Files<File = File> + AllocGlobal + Threads + Wait + Abort>(
 fn each_reply_of_each_op(rt: HostRuntime) -> Result<(), Failure> {
     let text = Vec::from_slice(rt.alloc(), REPLIES.as_bytes())?;
     leads_to(&rt, ["16", "16"], text, REPLIES_LISTING)
+}
+
+// The name of four digits, as a journal spells it.
+fn name(alloc: Global, k: u32) -> Result<String, AllocError> {
+    format!(in alloc;
+        "3{}3{}3{}3{}",
+        k / 1_000 % 10,
+        k / 100 % 10,
+        k / 10 % 10,
+        k % 10
+    )
+}
+
+// How many blocks a directory with that many entries, none of them empty, needs for one more: page 10 comes with an indirect one.
+fn page_need(entries: u32) -> u32
+    ensures { result ≤ 2 }
+{
+    if entries % 64 != 0 {
+        0
+    } else if entries == 640 {
+        2
+    } else {
+        1
+    }
+}
+
+// The root gets 998 directories, 3 to 1000, and a file, 1001.
+fn add_directories(alloc: Global, text: &mut String) -> Result<(), AllocError> {
+    for k in 0..998u32 {
+        let (name, need, made) = (name(alloc, k)?, 1 + page_need(2 + k), k + 3);
+        text.push_str(&format!(in alloc; "1 promise make 2 {name} = granted {need}\n")?)?;
+        text.push_str(&format!(in alloc; "1 create 2 {name} d 755 = made {made}\n")?)?;
+        text.push_str(&format!(in alloc; "1 drop {made} = kept\n1 forgo = done\n")?)?;
+    }
+    text.push_str(
+        "1 promise make 2 6d = granted 1\n1 create 2 6d d 755 = manylinks\n1 forgo = done\n",
+    )?;
+    text.push_str("1 create 2 66 f 644 = made 1001\n1 look 2 30303030 = found 3\n")
+}
+
+// The file gets 999 names more, in directory 3, and that 23 files more, until its sixteen pages are full.
+fn add_names(alloc: Global, text: &mut String) -> Result<(), AllocError> {
+    for k in 0..999u32 {
+        let (name, need) = (name(alloc, k)?, page_need(2 + k));
+        text.push_str(&format!(in alloc;
+            "1 addlink 1001 = raised\n1 promise enter 3 {name} = granted {need}\n"
+        )?)?;
+        text.push_str(&format!(in alloc; "1 enter 3 {name} 1001 = entered\n1 forgo = done\n")?)?;
+    }
+    text.push_str("1 addlink 1001 = manylinks\n")?;
+    for k in 999..1_022u32 {
+        let (name, made) = (name(alloc, k)?, k + 3);
+        text.push_str(&format!(in alloc;
+            "1 create 3 {name} f 644 = made {made}\n1 drop {made} = kept\n"
+        )?)?;
+    }
+    Ok(())
+}
+
+// 951 blocks are left, and one process is promised all of them.
+const NO_ROOM: &str = "1 open 1001 rw = opened 0
+1 promise write 0 968704 = granted 951
+2 look 2 30303030 = found 3
+2 promise enter 3 6d = nospace
+2 promise make 3 6d = nospace
+2 drop 3 = kept
+";
+
+fn most_links(alloc: Global) -> Result<String, AllocError> {
+    let mut text = String::from_str(alloc, "svj 1 2 400\n")?;
+    add_directories(alloc, &mut text)?;
+    add_names(alloc, &mut text)?;
+    text.push_str(NO_ROOM)?;
+    Ok(text)
+}
+
+fn most_links_listing(alloc: Global) -> Result<String, AllocError> {
+    let front =
+        "inode 2 d 755 links 1000 size 16016 pages 16\ninode 3 d 755 links 2 size 16384 pages 16\n";
+    let mut text = String::from_str(alloc, front)?;
+    for inode in 4..1_001u32 {
+        text.push_str(&format!(in alloc; "inode {inode} d 755 links 2 size 32 pages 1\n")?)?;
+    }
+    text.push_str("inode 1001 f 644 links 1000 size 0 pages 0\n")?;
+    for inode in 1_002..1_025u32 {
+        text.push_str(&format!(in alloc; "inode {inode} f 644 links 1 size 0 pages 0\n")?)?;
+    }
+    Ok(text)
+}
+
+#[test]
+fn as_many_links_as_there_can_be(rt: HostRuntime) -> Result<(), Failure> {
+    let text = Vec::from_slice(rt.alloc(), most_links(rt.alloc())?.as_bytes())?;
+    let listing = most_links_listing(rt.alloc())?;
+    leads_to(&rt, ["2048", "1024"], text, listing.as_str())
 }
