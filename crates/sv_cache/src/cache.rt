@@ -340,4 +340,6 @@ fn make_free(alloc: Global, buffers: u32) -> Result<Lists, NoMemory>
 }
 
 #[cfg(test)]
+mod alone;
+#[cfg(test)]
 mod tests;
