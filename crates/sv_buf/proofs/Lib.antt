@@ -1,0 +1,10 @@
+pub mod Views
+pub mod Bytes
+pub mod Steps
+pub mod Start
+pub mod Taking
+pub mod Lists
+pub mod Returning
+pub mod Putting
+pub mod Reading
+pub mod Getting

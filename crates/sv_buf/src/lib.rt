@@ -1,0 +1,22 @@
+//! The running cache: Bach's buffer cache (chapter 3) with threads that sleep and look again. The device is out while it transfers,
+//! and other threads go on.
+//!
+//! - `Cache::new` is given a disk, and gives the cache with two passes: the first holds all lines, the second is the worker's.
+//! - `Cache::stake` makes a stake of a pass: the right to certain lines. `CacheStake::give_up` makes a pass of it again.
+#![tactic(auto)]
+
+mod cache;
+mod event;
+mod get;
+mod give;
+mod leave;
+mod medium;
+mod rule;
+mod stake;
+mod state;
+mod view;
+
+pub use cache::{Cache, CachePass};
+pub use rule::Running;
+pub use stake::CacheStake;
+pub use std::alloc::AllocError as NoMemory;
