@@ -1,20 +1,18 @@
 -- A file with eleven pages, whose blocks are 50 to 59 and 61, and the single indirect block 60.
-use Rattle.std.proofs.Common.{◌≡◌, ◌≢◌, ◌+◌, ◌-◌, ◌*◌, ◌/◌, ◌%◌, ◌<◌, ◌≤◌, ◌==◌, ◌&&◌, ℕ, zero, suc, Bool, true, false, cond, nat_lt}
-use Rattle.std.proofs.Common.{List, [], ◌∷◌, length, replicate, set, get_or, Some, None, unwrap_or, arith, ap, refl, sym, ◌∙◌}
+use Rattle.std.proofs.Common.{◌≡◌, ◌≢◌, ◌+◌, ◌-◌, ◌*◌, ◌/◌, ◌%◌, ◌<◌, ◌≤◌, ◌==◌, ◌&&◌, ℕ, zero, suc, Bool, true, false, cond, List, [], ◌∷◌, length, map, replicate, set, get_or, Some, None, unwrap_or, arith, ap, refl, sym, ◌∙◌}
 use Rattle.std.proofs.lemmas.Bool.{eqb-true}
 use Rattle.std.proofs.lemmas.Bool.Decides.{nat_tests}
-use Rattle.std.proofs.lemmas.List.{get_or-replicate, get_or-set_same, get_or-set_other, length-replicate}
+use Rattle.std.proofs.lemmas.List.{get_or-replicate, get_or-set_same, get_or-set_other, length-map, length-replicate, length-set, map-set}
 use Rattle.sv_form.specs.Number.{number32}
 use Rattle.sv_form.specs.PagePath.{block_numbers}
 use Rattle.sv_form.specs.declared.geometry.Geometry.{Geometry}
 use Rattle.sv_store.specs.Calls.{Parts}
 use Rattle.sv_store.specs.Held.{Held, Origin, HoldsBlock, line_of, of_content, rest}
-use Rattle.sv_store.proofs.Holding.{in_range-other}
 use Rattle.sv_bmap.specs.Tree.{IsSpot, IsTree, block_at, child, down, number_in}
 use Rattle.sv_bmap.proofs.Empty.{down-hole}
 use Rattle.sv_bmap.proofs.Paths.{child-there, number-line}
 use Rattle.sv_super.specs.Sample.{sample_sizes}
-use Rattle.sv_super.proofs.Samples.{super_range}
+use Rattle.sv_super.proofs.Samples.{content-line, core-past, core_ranges}
 use Rattle.sv_inode.specs.StandsFor.{HasDataBlocks}
 
 -- the bytes of each block: its first number is 61, and all others are 0
@@ -24,24 +22,23 @@ row = set (replicate 1024 0) 0 61
 abbrev pub eleven : List ℕ
 eleven = 50 ∷ 51 ∷ 52 ∷ 53 ∷ 54 ∷ 55 ∷ 56 ∷ 57 ∷ 58 ∷ 59 ∷ 60 ∷ 0 ∷ 0 ∷ []
 
-less : (a b : ℕ) → a < b → nat_lt a b ≡ true
-less a b h = grind (nat_tests, arith)
+pub row-content : (g : Geometry) (xs : List (List ℕ)) (l : ℕ) → g ≡ sample_sizes → 60 < length xs → get_or xs 60 [] ≡ row → l < 16 → of_content g xs 60 l ≡ Some (line_of row l)
+row-content g xs l e some is low = content-line g xs 60 l e some low ∙ ap (λ q. Some (line_of q l)) is
 
-pub row-content : (g : Geometry) (xs : List (List ℕ)) (l : ℕ) → g ≡ sample_sizes → 60 < length xs → get_or xs 60 [] ≡ row → l < 16
-    → of_content g xs 60 l ≡ Some (line_of row l)
-unfolding of_content
-row-content g xs l e some is low =
-    ap (λ q. cond (q && nat_lt (l * 64) g.block_size) (Some (line_of (get_or xs 60 []) l)) None) (less 60 (length xs) some)
-    ∙ (ap (λ q. cond (nat_lt (l * 64) q.block_size) (Some (line_of (get_or xs 60 []) l)) None) e
-    ∙ (ap (λ q. cond q (Some (line_of (get_or xs 60 []) l)) None) (less (l * 64) 1024 (omega (arith, low)))
-    ∙ ap (λ q. Some (line_of q l)) is))
+-- the rows once that of block 2 was changed
+pub changed-length : {X : Type 0} (f : X → List ℕ) (xs : List X) (x : X) → length (map f (set xs 2 x)) ≡ length xs
+changed-length f xs x = length-map (set xs 2 x) f ∙ length-set xs 2 x
 
-pub row-kept : {h mine theirs : Held} → Parts h (super_range ∷ []) mine theirs → (l : ℕ) → h 60 l ≡ Some (line_of row l)
-    → mine 60 l ≡ Some (line_of row l)
+pub changed-other : {X : Type 0} (f : X → List ℕ) (xs : List X) (x : X) → get_or (map f (set xs 2 x)) 60 [] ≡ get_or (map f xs) 60 []
+changed-other f xs x = ap (λ q. get_or q 60 []) (map-set f xs 2 x) ∙ get_or-set_other (map f xs) 2 60 (f x) [] (λ same. absurd (omega (arith, same)))
+
+pub changed-same : {X : Type 0} (f : X → List ℕ) (xs : List X) (x : X) → 2 < length xs → get_or (map f (set xs 2 x)) 2 [] ≡ f x
+changed-same f xs x some = ap (λ q. get_or q 2 []) (map-set f xs 2 x) ∙ get_or-set_same (map f xs) 2 (f x) [] (omega (arith, some, length-map xs f))
+
+pub row-kept : {h mine theirs : Held} → Parts h core_ranges mine theirs → (l : ℕ) → h 60 l ≡ Some (line_of row l) → mine 60 l ≡ Some (line_of row l)
 unfolding rest
 row-kept {h} {mine} {theirs} parts l is =
-    ap (λ q. q 60 l) parts.kept
-    ∙ (ap (λ t. cond t None (h 60 l)) (in_range-other super_range 60 l (λ same. absurd (omega (arith, same)))) ∙ is)
+    ap (λ q. q 60 l) parts.kept ∙ (ap (λ t. cond t None (h 60 l)) (core-past 60 l (omega arith)) ∙ is)
 
 -- ---- the numbers of the indirect block
 

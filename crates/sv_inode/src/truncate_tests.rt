@@ -2,6 +2,7 @@
 ghost use Rattle.std.specs.Prelude.{◌≡◌, ◌<◌, ◌∷◌, [], ℕ, IfOk, OnOk, IsSome, Some, length, replicate, set, slice_index, true};
 ghost use Rattle.std.specs.List.{All};
 ghost use Rattle.sv_store.specs.Held.{line_of, nothing_lent};
+ghost use Rattle.sv_super.specs.Calls.{head_of};
 ghost use Rattle.sv_super.specs.Sample.{IsSource, sample_sizes};
 
 use crate::LockedInode;
@@ -55,14 +56,25 @@ fn blocks(alloc: Global) -> Result<Vec<Vec<u8>>, NoMemory>
     Ok(blocks)
 }
 
-// A stake of 64 blocks, in which one call fails.
+// A block of zero bytes.
+fn zero_block(alloc: Global) -> Result<Vec<u8>, NoMemory>
+    ensures size { IfOk result (λ bytes. length bytes.items ≡ 1024) }
+    ensures zeros { IfOk result (λ bytes. bytes.items ≡ replicate 1024 0) }
+{
+    let bytes = vec![in alloc; 0u8; 1024]?;
+    Ok(bytes)
+}
+
+// A stake of 64 blocks, in which one call fails. The lines of the first sixteen inodes are zero bytes.
 pub(crate) fn whole_stake(alloc: Global, failing: u64) -> Result<OwnStake, NoMemory>
     ensures held { IfOk result (λ s. (b l : ℕ) → b < 64 → l < 16 → IsSome (⟦<OwnStake as Stake>⟧.held s b l)) }
+    ensures first { IfOk result (λ s. ⟦<OwnStake as Stake>⟧.held s 2 0 ≡ Some (replicate 64 0)) }
     ensures row { IfOk result (λ s. (l : ℕ) → l < 16 → ⟦<OwnStake as Stake>⟧.held s 60 l ≡ Some (line_of (set (replicate 1024 0) 0 61) l)) }
     ensures lent { IfOk result (λ s. ⟦<OwnStake as Stake>⟧.lent s ≡ nothing_lent) }
     ensures sizes { IfOk result (λ s. (⟦<OwnStake as Stake>⟧.origin s).sizes ≡ sample_sizes) }
 {
-    let content = blocks(alloc)?;
+    let mut content = blocks(alloc)?;
+    content[2] = zero_block(alloc)?;
     let mut fails = Vec::new(alloc);
     fails.push(failing)?;
     let stake = OwnStake::new(alloc, SIZES, content, fails)?;
@@ -74,6 +86,7 @@ fn mounted(alloc: Global) -> Result<Mounted, NoMemory>
     ensures geometry { IfOk result (λ m. m.owners.geometry ≡ sample_sizes) }
     ensures count { IfOk result (λ m. length m.owners.owners ≡ 1024) }
     ensures owners { IfOk result (λ m. (k : ℕ) → k < 1024 → slice_index m.owners.owners k ≡ 2) }
+    ensures sizes { IfOk result (λ m. head_of m.head ≡ record { block_type = 2; first_data = 4; blocks = 64 }) }
     ensures list { IfOk result (λ m. m.head.free.items ≡ 0 ∷ []) }
     ensures used { IfOk result (λ m. m.used.items ≡ replicate 32 true) }
     ensures inodes { IfOk result (λ m. m.head.inodes.items ≡ []) }
@@ -97,12 +110,13 @@ fn mounted(alloc: Global) -> Result<Mounted, NoMemory>
     })
 }
 
-// The superblock's lines of a stake, as a core without free blocks.
+// The lines of the superblock and of inode 1, as a core without free blocks.
 pub(crate) fn empty_core<S: Stake>(
     alloc: Global,
     source: &mut S,
 ) -> Result<Result<SuperCore<S>, (S, NoMemory)>, Refusal>
     requires held { (b l : ℕ) → b < 64 → l < 16 → IsSome (S.held source.old b l) }
+    requires first { S.held source.old 2 0 ≡ Some (replicate 64 0) }
     requires row { (l : ℕ) → l < 16 → S.held source.old 60 l ≡ Some (line_of (set (replicate 1024 0) 0 61) l) }
     requires lent { S.lent source.old ≡ nothing_lent }
     requires sizes { (S.origin source.old).sizes ≡ sample_sizes }
@@ -111,11 +125,18 @@ pub(crate) fn empty_core<S: Stake>(
     ensures line { OnOk result (IsSome (S.held source.new 2 2)) }
     ensures row { OnOk result ((l : ℕ) → l < 16 → S.held source.new 60 l ≡ Some (line_of (set (replicate 1024 0) 0 61) l)) }
 {
-    let lines = [LineRange {
-        block: 0,
-        first: 8,
-        count: 8,
-    }];
+    let lines = [
+        LineRange {
+            block: 0,
+            first: 8,
+            count: 8,
+        },
+        LineRange {
+            block: 2,
+            first: 0,
+            count: 1,
+        },
+    ];
     let mounted = mounted(alloc)?;
     let stake = source.part(alloc, &lines)?;
     Ok(SuperCore::new(alloc, stake, &mounted))

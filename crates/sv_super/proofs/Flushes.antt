@@ -3,20 +3,21 @@ use Rattle.std.proofs.Common.{◌≡◌, ◌≢◌, ◌≤◌, ◌<◌, ◌+◌,
 use Rattle.std.proofs.lemmas.Bool.{eqb-true}
 use Rattle.std.proofs.lemmas.List.{append_assoc, take_all}
 use Rattle.sv_dev.specs.Causes.{Rose}
-use Rattle.sv_form.specs.Geometry.{IsDataBlock, IsGeometry, super_place}
+use Rattle.sv_form.specs.Geometry.{IsDataBlock, IsGeometry, inode_place, super_place}
 use Rattle.sv_form.specs.Superblock.{IsFreeCache, IsInodeCache, IsSuper}
 use Rattle.sv_form.specs.declared.geometry.Geometry.{Geometry}
 use Rattle.sv_form.specs.declared.superblock.Super.{Super}
 use Rattle.sv_store.specs.Held.{Held, HoldsBlock, Lent, Origin, SameLines, nothing_lent, put}
 use Rattle.sv_store.proofs.Holding.{SameLines-put, SameLines-eq, SameLines-trans, eqb_same, is_some-put}
 use Rattle.sv_super.specs.Calls.{Links}
-use Rattle.sv_super.specs.Core.{Head, HoldsInodes, HoldsSuper, IsCore, IsKept, IsSound, free_times}
+use Rattle.sv_super.specs.Core.{Head, HoldsFirst, HoldsInodes, HoldsOnly, HoldsSuper, IsCore, IsKept, IsSound, NamesSizes, free_times}
 use Rattle.sv_super.specs.Count.{one_if, times}
 use Rattle.sv_super.specs.FreeList.{IsChain, taken}
 use Rattle.sv_super.specs.Written.{IsWritten, PutsSuper, Rewrites, is_super_line, super_bytes, super_of}
 use Rattle.sv_super.proofs.Chains.{chain-more, frame, length-taken, taken-is}
 use Rattle.sv_super.proofs.Counts.{apart, times-append, times-cons, times-snoc}
-use Rattle.sv_super.proofs.InodeLines.{inodes-stay, kept-elsewhere, super-first}
+use Rattle.sv_super.proofs.InodeLines.{inodes-stay, kept-elsewhere, place-is, super-first}
+use Rattle.sv_super.proofs.OnlyFree.{only-fewer, only-home}
 use Rattle.sv_super.proofs.Sound.{kept-spelled, put-away, split-last}
 
 -- ---- one block is linked
@@ -50,6 +51,9 @@ moved {o} {o'} {h} {new} {m} {m'} {list} {list'} {aside} {aside'} {n} {n'} {spar
     sound = (let P : Origin → Type 0 = λ q. IsSound q new m' (free_times (taken n' new list') aside') in
         subst P (sym home) (subst (λ q. IsSound o new m' (free_times q aside')) (sym order) sound));
     chain = subst (λ q. IsChain new list' q) (sym order) chain;
+    only = only-home home
+        (subst (λ q. HoldsOnly o new (free_times q aside')) (sym order)
+        (only-fewer (free_times (b ∷ taken n h list) aside') kept.only (λ c l some in_data. sym ((linked-lines b links).at c l) ∙ some) (λ c. let e = count c in omega (arith, e))));
     fits = (let fits = kept.fits in let q = ap length parts in let l = long aside' in omega (arith, fits, q, l, larger));
   };
   chain = order;
@@ -143,17 +147,23 @@ put-rewrites {g} f {h} {new} {s} puts = record {
         subst P (sym here) (puts.neighbours l (ap (λ q. is_super_line g q l) (sym here) ∙ out))
     by c l out false e = ap (λ q. q c l) puts.puts ∙ ap (λ q. q l) (put-away (super_place g).block c puts.bytes h (apart c (super_place g).block e))
 
-pub core-put : {o o' : Origin} {h new : Held} {m m' : Lent} {list aside : List ℕ} {n spare room : ℕ} {used : List Bool} {s : Super} → IsGeometry o.sizes → IsCore o h m list n aside spare room used → PutsSuper o.sizes h new s → o' ≡ o → m' ≡ nothing_lent → IsCore o' new m' list n aside spare room used × (taken n new list ≡ taken n h list)
-core-put {o} {o'} {h} {new} {m} {m'} {list} {aside} {n} {spare} {room} {used} {s} sizes core puts home lent =
-    (record { blocks = blocks.0; inodes = inodes-stay sizes core.inodes home (λ c l past low some. ap (λ q. q l) (away c (λ same. absurd (omega (arith, past, same, super-first sizes))))) }, blocks.1)
+pub core-put : {o o' : Origin} {h new : Held} {m m' : Lent} {list aside : List ℕ} {n spare room : ℕ} {used : List Bool} {head : Head} {s : Super} → IsGeometry o.sizes → IsCore o h m list n aside spare room used head → PutsSuper o.sizes h new s → o' ≡ o → m' ≡ nothing_lent → IsCore o' new m' list n aside spare room used head × (taken n new list ≡ taken n h list)
+core-put {o} {o'} {h} {new} {m} {m'} {list} {aside} {n} {spare} {room} {used} {head} {s} sizes core puts home lent =
+    (record { blocks = blocks.0; first = first; names = (let P : Origin → Type 0 = λ q. NamesSizes q.sizes head in subst P (sym home) core.names); inodes = inodes-stay sizes core.inodes home (λ c l past low some. ap (λ q. q l) (away c (λ same. absurd (omega (arith, past, same, super-first sizes))))) }, blocks.1)
   where
     away : (c : ℕ) → c ≢ (super_place o.sizes).block → new c ≡ h c
     away c ne = ap (λ q. q c) puts.puts ∙ put-away (super_place o.sizes).block c puts.bytes h ne
+
+    first : HoldsFirst o' new
+    first =
+        (let P : Origin → Type 0 = λ q. HoldsFirst q new in
+        subst P (sym home) (record { line = ap (λ q. q (inode_place o.sizes 1).line) (away (inode_place o.sizes 1).block (λ same. absurd (omega (arith, (place-is 1 sizes).0, same, super-first sizes)))) ∙ core.first.line }))
 
     blocks : IsKept o' new m' list n aside spare room × (taken n new list ≡ taken n h list)
     blocks =
         kept-elsewhere core.blocks home lent
         (λ c some. away c (λ same. absurd (let in_data = core.blocks.sound.in_data c some in omega (arith, same, in_data.least, sizes.least_first, super-first sizes))))
+        (λ c l some in_data. sym (ap (λ q. is_some (q c l)) puts.puts ∙ is_some-put (super_place o.sizes).block puts.bytes h c l) ∙ some)
         (record { at = λ l low. ap (λ q. is_some (q (super_place o.sizes).block ((super_place o.sizes).line + l))) puts.puts ∙ (is_some-put (super_place o.sizes).block puts.bytes h (super_place o.sizes).block ((super_place o.sizes).line + l) ∙ core.blocks.sound.super.at l low) })
 
 -- the superblock of the core
@@ -169,8 +179,8 @@ super-as {bytes} {s} head list cached is a b c free inodes = record {
   rest = is.rest;
 }
 
-pub written-put : {o o' : Origin} {h new : Held} {m m' : Lent} {list aside order : List ℕ} {n spare room : ℕ} {used : List Bool} {s : Super} (head : Head) (cached : List ℕ) → IsGeometry o.sizes → IsCore o h m list n aside spare room used → PutsSuper o.sizes h new s → o' ≡ o → m' ≡ nothing_lent → s.block_type ≡ head.block_type → s.first_data ≡ head.first_data → s.blocks ≡ head.blocks → s.free.items ≡ list → s.inodes.items ≡ cached → order ≡ taken n new list → IsWritten o.sizes new head order cached
-written-put {o} {o'} {h} {new} {m} {m'} {list} {aside} {order} {n} {spare} {room} {used} {s} head cached sizes core puts home lent a b c free inodes is = record {
+pub written-put : {o o' : Origin} {h new : Held} {m m' : Lent} {list aside order : List ℕ} {n spare room : ℕ} {used : List Bool} {named : Head} {s : Super} (head : Head) (cached : List ℕ) → IsGeometry o.sizes → IsCore o h m list n aside spare room used named → PutsSuper o.sizes h new s → o' ≡ o → m' ≡ nothing_lent → s.block_type ≡ head.block_type → s.first_data ≡ head.first_data → s.blocks ≡ head.blocks → s.free.items ≡ list → s.inodes.items ≡ cached → order ≡ taken n new list → IsWritten o.sizes new head order cached
+written-put {o} {o'} {h} {new} {m} {m'} {list} {aside} {order} {n} {spare} {room} {used} {named} {s} head cached sizes core puts home lent a b c free inodes is = record {
   list = list;
   spelled = super-as head list cached puts.spelled a b c free inodes;
   chain = subst (λ q. IsChain new list q) (sym is) (core-put sizes core puts home lent).0.blocks.chain;

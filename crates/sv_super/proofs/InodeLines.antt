@@ -11,12 +11,13 @@ use Rattle.sv_form.specs.declared.place.Place.{Place}
 use Rattle.sv_store.specs.Held.{Apart, Both, Held, HoldsBlock, InRange, Lent, Origin, chosen, covers, in_ranges, nothing_lent, rest}
 use Rattle.sv_store.specs.Calls.{CanPart, Parts}
 use Rattle.sv_store.proofs.Holding.{CanPart-range, eqb_same, none_from}
-use Rattle.sv_super.specs.Core.{HoldsInodes, HoldsSuper, IsCore, IsKept, IsSound, free_times, less, line_alone, line_less}
+use Rattle.sv_super.specs.Core.{Head, HoldsInodes, HoldsOnly, HoldsSuper, IsCore, IsKept, IsSound, free_times, less, line_alone, line_less}
 use Rattle.sv_super.specs.FreeList.{IsChain, taken}
 use Rattle.sv_super.specs.Inodes.{is_free_inode}
 use Rattle.sv_super.proofs.Chains.{frame, length-taken, taken-is}
 use Rattle.sv_super.proofs.Counts.{other}
 use Rattle.sv_super.proofs.FreeNumbers.{free-range, set-away, used-at}
+use Rattle.sv_super.proofs.OnlyFree.{both-data, only-fewer, only-home}
 use Rattle.sv_super.proofs.Sound.{Joined, both-same, less-other}
 
 -- ---- places
@@ -72,12 +73,13 @@ inodes-joined {o} {o'} {h} {k} {new} {used} b sizes is home joined in_data =
 
 -- ---- the free blocks while other lines come and go
 
-pub kept-elsewhere : {o o' : Origin} {h h' : Held} {m m' : Lent} {list aside : List ℕ} {n spare room : ℕ} → IsKept o h m list n aside spare room → o' ≡ o → m' ≡ nothing_lent → ((c : ℕ) → 0 < free_times (taken n h list) aside c → h' c ≡ h c) → HoldsSuper o h' → IsKept o' h' m' list n aside spare room × (taken n h' list ≡ taken n h list)
-kept-elsewhere {o} {o'} {h} {h'} {m} {m'} {list} {aside} {n} {spare} {room} kept home lent same super = (
+pub kept-elsewhere : {o o' : Origin} {h h' : Held} {m m' : Lent} {list aside : List ℕ} {n spare room : ℕ} → IsKept o h m list n aside spare room → o' ≡ o → m' ≡ nothing_lent → ((c : ℕ) → 0 < free_times (taken n h list) aside c → h' c ≡ h c) → ((c l : ℕ) → IsSome (h' c l) → IsDataBlock o.sizes c → IsSome (h c l)) → HoldsSuper o h' → IsKept o' h' m' list n aside spare room × (taken n h' list ≡ taken n h list)
+kept-elsewhere {o} {o'} {h} {h'} {m} {m'} {list} {aside} {n} {spare} {room} kept home lent same fewer super = (
   record {
     sound = (let P : Origin → Type 0 = λ q. IsSound q h' m' (free_times (taken n h' list) aside) in
         subst P (sym home) (subst (λ q. IsSound o h' m' (free_times q aside)) (sym order) sound));
     chain = subst (λ q. IsChain h' list q) (sym order) chain;
+    only = only-home home (subst (λ q. HoldsOnly o h' (free_times q aside)) (sym order) (only-fewer (free_times (taken n h list) aside) kept.only fewer (λ c. omega arith)));
     fits = kept.fits;
   },
   order,
@@ -106,11 +108,21 @@ line-less-other : (p : Place) (c : ℕ) (h : Held) → c ≢ p.block → line_le
 unfolding line_less
 line-less-other p c h ne = ap (λ t. λ (l : ℕ). cond (t && (l == p.line)) None (h c l)) (other c p.block ne)
 
+-- a line that is left was there
+line-less-some : (p : Place) (c l : ℕ) (h : Held) → IsSome (line_less p h c l) → IsSome (h c l)
+unfolding line_less
+line-less-some p c l h some = by ((c == p.block) && (l == p.line)) (h c l) some
+  where
+    by : (t : Bool) (q : Option (List ℕ)) → is_some (cond t None q) ≡ true → is_some q ≡ true
+    by true q e = absurd (false≢true e)
+    by false q e = e
+
 -- the line of a free inode was cut off
 pub kept-line_less : {o o' : Origin} {h h' : Held} {m m' : Lent} {list aside : List ℕ} {n spare room : ℕ} {used : List Bool} (i : ℕ) → IsGeometry o.sizes → IsKept o h m list n aside spare room → HoldsInodes o h used → is_free_inode used i ≡ true → o' ≡ o → m' ≡ nothing_lent → h' ≡ line_less (inode_place o.sizes i) h → IsKept o' h' m' list n aside spare room × (taken n h' list ≡ taken n h list)
 kept-line_less {o} {o'} {h} {h'} {m} {m'} {list} {aside} {n} {spare} {room} {used} i sizes kept is free home lent cut =
     kept-elsewhere kept home lent
     (λ c some. ap (λ q. q c) cut ∙ line-less-other (inode_place o.sizes i) c h (λ same. absurd (let in_data = kept.sound.in_data c some in omega (arith, same, place.1, in_data.least))))
+    (λ c l some in_data. line-less-some (inode_place o.sizes i) c l h (sym (ap (λ q. is_some (q c l)) cut) ∙ some))
     (record {
       at = λ l low.
           ap (λ q. is_some (q (super_place o.sizes).block ((super_place o.sizes).line + l))) cut
@@ -120,7 +132,7 @@ kept-line_less {o} {o'} {h} {h'} {m} {m'} {list} {aside} {n} {spare} {room} {use
     place : (2 ≤ (inode_place o.sizes i).block) × ((inode_place o.sizes i).block < o.sizes.first_data) × ((inode_place o.sizes i).line < 16)
     place = let range = free-range used i free in place-low i sizes (omega (arith, range.0)) (omega (arith, range.1, is.size))
 
-both-no : (t s : Bool) → (t ≡ true → s ≡ true → ⊥) → (t && s) ≡ false
+pub both-no : (t s : Bool) → (t ≡ true → s ≡ true → ⊥) → (t && s) ≡ false
 both-no true true h = absurd (h refl refl)
 both-no true false h = refl
 both-no false s h = refl
@@ -176,9 +188,10 @@ inodes-joined_line {o} {o'} {h} {k} {h'} {used} {used'} n is low joins away line
         ap (λ q. q (inode_place o.sizes j).block (inode_place o.sizes j).line) joins
         ∙ (ap (λ t. cond t (h (inode_place o.sizes j).block (inode_place o.sizes j).line) (k (inode_place o.sizes j).block (inode_place o.sizes j).line)) (ap is_some here) ∙ here)
 
-pub kept-joined_line : {o o' : Origin} {h h' : Held} (k : Held) {m m' : Lent} {list aside : List ℕ} {n spare room : ℕ} → IsGeometry o.sizes → InRange o.sizes (Both h k) → IsKept o h m list n aside spare room → o' ≡ o → m' ≡ nothing_lent → h' ≡ Both h k → IsKept o' h' m' list n aside spare room × (taken n h' list ≡ taken n h list)
-kept-joined_line {o} {o'} {h} {h'} k {m} {m'} {list} {aside} {n} {spare} {room} sizes range kept home lent joins =
+pub kept-joined_line : {o o' : Origin} {h h' : Held} (k : Held) {m m' : Lent} {list aside : List ℕ} {n spare room : ℕ} → IsGeometry o.sizes → InRange o.sizes (Both h k) → IsKept o h m list n aside spare room → HoldsOnly o k (λ _. 0) → o' ≡ o → m' ≡ nothing_lent → h' ≡ Both h k → IsKept o' h' m' list n aside spare room × (taken n h' list ≡ taken n h list)
+kept-joined_line {o} {o'} {h} {h'} k {m} {m'} {list} {aside} {n} {spare} {room} sizes range kept none home lent joins =
     kept-elsewhere kept home lent (λ c some. ap (λ q. q c) joins ∙ both-same o h k c range sizes (kept.sound.whole c some))
+    (λ c l some in_data. both-data h none c l (sym (ap (λ q. is_some (q c l)) joins) ∙ some) in_data)
     (record { at = λ l low. ap (λ q. is_some (q (super_place o.sizes).block ((super_place o.sizes).line + l))) joins ∙ (ap is_some (both-first h k (super_place o.sizes).block ((super_place o.sizes).line + l) (kept.sound.super.at l low)) ∙ kept.sound.super.at l low) })
 
 -- ---- one line cut off
@@ -229,11 +242,11 @@ range-home {o} {o'} {h} {h'} sizes value home same range =
     subst P (value ∙ ap (λ q. q.sizes) home) (let Q : Held → Type 0 = λ q. InRange sizes q in subst Q same range))
 
 -- nothing that it depends on has changed
-pub core-same : {o o' : Origin} {h h' : Held} {m m' : Lent} {list aside : List ℕ} {n spare room : ℕ} {used used' : List Bool} → IsCore o h m list n aside spare room used → o' ≡ o → h' ≡ h → m' ≡ nothing_lent → used' ≡ used → IsCore o' h' m' list n aside spare room used'
-core-same {o} {o'} {h} {h'} {m} {m'} {list} {aside} {n} {spare} {room} {used} {used'} core home same lent marks =
-    (let P : Origin → Type 0 = λ q. IsCore q h' m' list n aside spare room used' in
+pub core-same : {o o' : Origin} {h h' : Held} {m m' : Lent} {list aside : List ℕ} {n spare room : ℕ} {used used' : List Bool} {head : Head} → IsCore o h m list n aside spare room used head → o' ≡ o → h' ≡ h → m' ≡ nothing_lent → used' ≡ used → IsCore o' h' m' list n aside spare room used' head
+core-same {o} {o'} {h} {h'} {m} {m'} {list} {aside} {n} {spare} {room} {used} {used'} {head} core home same lent marks =
+    (let P : Origin → Type 0 = λ q. IsCore q h' m' list n aside spare room used' head in
     subst P (sym home)
-    (let Q : Held → Type 0 = λ q. IsCore o q m' list n aside spare room used' in
+    (let Q : Held → Type 0 = λ q. IsCore o q m' list n aside spare room used' head in
     subst Q (sym same)
-    (let R : Lent → Type 0 = λ q. IsCore o h q list n aside spare room used' in
-    subst R (core.blocks.sound.lent ∙ sym lent) (subst (λ q. IsCore o h m list n aside spare room q) (sym marks) core))))
+    (let R : Lent → Type 0 = λ q. IsCore o h q list n aside spare room used' head in
+    subst R (core.blocks.sound.lent ∙ sym lent) (subst (λ q. IsCore o h m list n aside spare room q head) (sym marks) core))))

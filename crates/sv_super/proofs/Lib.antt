@@ -2,10 +2,12 @@ pub mod Added
 pub mod Caches
 pub mod Chains
 pub mod Counts
+pub mod FirstLine
 pub mod Flushes
 pub mod FreeNumbers
 pub mod Fronts
 pub mod InodeLines
+pub mod OnlyFree
 pub mod Samples
 pub mod Sound
 pub mod Supers

@@ -1,6 +1,6 @@
 -- The stake of the tests, from which blocks are parted and freed.
 use Rattle.std.proofs.Common.{◌≡◌, ◌≢◌, ◌<◌, ◌≤◌, ◌+◌, ◌*◌, ◌==◌, ◌&&◌, ◌||◌, inl, inr, ℕ, replicate, Bool, true, false, cond, List, [], ◌∷◌, ◌++◌, length, get_or, Option, Some, None, IsSome, is_some, nat_le, nat_lt, refl, sym, ap, ◌∙◌, subst, arith, length-append}
-use Rattle.std.proofs.lemmas.Bool.{false≢true}
+use Rattle.std.proofs.lemmas.Bool.{eqb-true, false≢true}
 use Rattle.std.proofs.lemmas.Bool.Decides.{nat_tests}
 use Rattle.sv_form.specs.Geometry.{IsDataBlock, IsGeometry, block_lines, inode_count, inode_place, super_place, line_number}
 use Rattle.sv_form.specs.OwnerTable.{OwnerTable}
@@ -8,11 +8,12 @@ use Rattle.sv_form.specs.Owners.{owner_of}
 use Rattle.sv_form.specs.declared.geometry.Geometry.{Geometry}
 use Rattle.sv_form.specs.declared.place.Place.{Place}
 use Rattle.sv_form.specs.declared.owners.LineRange.{LineRange}
-use Rattle.sv_store.specs.Held.{Apart, Both, Held, Lent, Origin, SameLines, covers, in_ranges, line_of, nothing_lent, of_content, rest}
+use Rattle.sv_form.specs.declared.superblock.Super.{Super}
+use Rattle.sv_store.specs.Held.{Apart, Both, Held, Lent, Origin, SameLines, chosen, covers, in_ranges, line_of, nothing_lent, of_content, rest}
 use Rattle.sv_store.specs.Calls.{CanPart, Parts}
-use Rattle.sv_store.proofs.Holding.{Apart-Parts, CanPart-range, IsSome-given, IsSome-kept, SameLines-eq, in_range-other, is_some-Both, none_from}
-use Rattle.sv_super.specs.Calls.{CanMount, CanMountInodes, Frees, Takes, is_free, owned_lines}
-use Rattle.sv_super.specs.Core.{Core, HoldsSuper, alone, left_of, less, line_alone}
+use Rattle.sv_store.proofs.Holding.{Apart-Parts, CanPart-range, IsSome-given, IsSome-kept, SameLines-eq, covers-means, is_some-Both, none_from}
+use Rattle.sv_super.specs.Calls.{CanMount, CanMountInodes, Frees, Takes, head_of, is_free, owned_lines}
+use Rattle.sv_super.specs.Core.{Core, HoldsFirst, HoldsOnly, HoldsSuper, NamesSizes, alone, left_of, less, line_alone}
 use Rattle.sv_super.specs.Count.{one_if, sum_below, times}
 use Rattle.sv_super.specs.Inodes.{is_free_inode}
 use Rattle.sv_super.specs.Sample.{IsSource, sample_sizes}
@@ -126,10 +127,52 @@ takes-left {S} {old} {new} {b} (inr takes) =
 abbrev pub super_range : LineRange
 super_range = record { block = 0; first = 8; count = 8 }
 
-pub super-part : {h : Held} {m : Lent} → ((b l : ℕ) → b < 64 → l < 16 → IsSome (h b l)) → m ≡ nothing_lent → CanPart h m (super_range ∷ [])
-super-part {h} {m} held lent = CanPart-range h m super_range (λ l low high. held 0 l (omega arith) (omega arith)) (ap (λ q. q 0) lent) (omega arith) 1 0 (held 1 0 (omega arith) (omega arith)) (λ same. absurd (omega (arith, same)))
+-- the line of inode 1
+abbrev pub first_range : LineRange
+first_range = record { block = 2; first = 0; count = 1 }
 
-super-covers : (l : ℕ) → l < 8 → in_ranges (super_range ∷ []) 0 (8 + l) ≡ true
+-- the lines that a core has without free blocks and inodes
+abbrev pub core_ranges : List LineRange
+core_ranges = super_range ∷ first_range ∷ []
+
+or-second : (s t : Bool) → s ≡ false → (s || (t || false)) ≡ true → t ≡ true
+or-second true t e is = absurd (false≢true (sym e))
+or-second false true e is = refl
+or-second false false e is = absurd (false≢true is)
+
+core-within : (b l : ℕ) → in_ranges core_ranges b l ≡ true → (b < 4) × (l < 16)
+core-within b l is = by (covers b l super_range) refl
+  where
+    by : (t : Bool) → covers b l super_range ≡ t → (b < 4) × (l < 16)
+    by true e = let m = covers-means b l super_range e in (omega (arith, m.0), omega (arith, m.2))
+    by false e =
+        let m = covers-means b l first_range (or-second (covers b l super_range) (covers b l first_range) e is) in
+        (omega (arith, m.0), omega (arith, m.2))
+
+pub core-past : (b l : ℕ) → 4 ≤ b → in_ranges core_ranges b l ≡ false
+core-past b l past = by (in_ranges core_ranges b l) refl
+  where
+    by : (t : Bool) → in_ranges core_ranges b l ≡ t → in_ranges core_ranges b l ≡ false
+    by true e = absurd (let low = core-within b l e in omega (arith, low.0, past))
+    by false e = e
+
+pub core-part : {h : Held} {m : Lent} → ((b l : ℕ) → b < 64 → l < 16 → IsSome (h b l)) → m ≡ nothing_lent → CanPart h m core_ranges
+unfolding covers
+core-part {h} {m} held lent = record {
+  within = λ b l is. (let low = core-within b l is in held b l (omega (arith, low.0)) low.1);
+  away = λ b l is. ap (λ q. q b) lent;
+  once = λ b l. one (covers b l super_range) (covers b l first_range) (λ e f. absurd (omega (arith, (covers-means b l super_range e).0, (covers-means b l first_range f).0)));
+  some = (0, (8, refl));
+  more = (1, (0, (held 1 0 (omega arith) (omega arith), refl)));
+}
+  where
+    one : (s t : Bool) → (s ≡ true → t ≡ true → ⊥) → 0 + cond s 1 0 + cond t 1 0 ≤ 1
+    one true true never = absurd (never refl refl)
+    one true false never = omega arith
+    one false true never = omega arith
+    one false false never = omega arith
+
+super-covers : (l : ℕ) → l < 8 → in_ranges core_ranges 0 (8 + l) ≡ true
 unfolding covers
 super-covers l low = or-none (nat_le 8 (8 + l) && nat_lt (8 + l) 16) ∙ and-yes (nat_le 8 (8 + l)) (nat_lt (8 + l) 16) (le 8 (8 + l) (omega arith)) (lt (8 + l) 16 (omega arith))
   where
@@ -146,20 +189,51 @@ super-covers l low = or-none (nat_le 8 (8 + l) && nat_lt (8 + l) 16) ∙ and-yes
     lt : (x y : ℕ) → x < y → nat_lt x y ≡ true
     lt x y h = grind (nat_tests, arith)
 
-pub super-held : {o : Origin} {h mine theirs : Held} → ((b l : ℕ) → b < 64 → l < 16 → IsSome (h b l)) → Parts h (super_range ∷ []) mine theirs → o.sizes ≡ sample_sizes → HoldsSuper o theirs
+pub super-held : {o : Origin} {h mine theirs : Held} → ((b l : ℕ) → b < 64 → l < 16 → IsSome (h b l)) → Parts h core_ranges mine theirs → o.sizes ≡ sample_sizes → HoldsSuper o theirs
 super-held {o} {h} {mine} {theirs} held parts e = record {
   at = (let P : Geometry → Type 0 = λ q. (l : ℕ) → l < 8 → IsSome (theirs (super_place q).block ((super_place q).line + l)) in
       subst P (sym e) (λ l low. IsSome-given parts 0 (8 + l) (super-covers l low) (held 0 (8 + l) (omega arith) (omega (arith, low)))));
 }
 
-pub first-source : {o o' : Origin} {h mine theirs : Held} {m : Lent} → ((b l : ℕ) → b < 64 → l < 16 → IsSome (h b l)) → Parts h (super_range ∷ []) mine theirs → o.sizes ≡ sample_sizes → o' ≡ o → m ≡ nothing_lent → IsSource o theirs o' mine m 64
+core-before : in_ranges core_ranges 1 0 ≡ false
+unfolding covers
+core-before = refl
+
+pub third-kept : in_ranges core_ranges 2 2 ≡ false
+unfolding covers
+third-kept = refl
+
+-- it holds inode 1's line, and no data block's
+pub core-first : {o : Origin} {h mine theirs : Held} → h 2 0 ≡ Some (replicate 64 0) → Parts h core_ranges mine theirs → o.sizes ≡ sample_sizes → HoldsFirst o theirs
+unfolding chosen covers
+core-first {o} {h} {mine} {theirs} zeros parts e = record {
+  line = (let P : Geometry → Type 0 = λ q. theirs (inode_place q 1).block (inode_place q 1).line ≡ Some (replicate 64 0) in
+      subst P (sym e) (ap (λ q. q 2 0) parts.given ∙ zeros));
+}
+
+pub core-only : {o : Origin} {h mine theirs : Held} (f : ℕ → ℕ) → Parts h core_ranges mine theirs → o.sizes ≡ sample_sizes → HoldsOnly o theirs f
+unfolding chosen
+core-only {o} {h} {mine} {theirs} f parts e = record { only = λ b l some in_data. by b l in_data (sym (ap (λ q. is_some (q b l)) parts.given) ∙ some) (in_ranges core_ranges b l) refl }
+  where
+    by : (b l : ℕ) → IsDataBlock o.sizes b → is_some (cond (in_ranges core_ranges b l) (h b l) None) ≡ true → (t : Bool) → in_ranges core_ranges b l ≡ t → 0 < f b
+    by b l in_data some true q = absurd (let low = core-within b l q in omega (arith, low.0, in_data.least, ap (λ (g : Geometry). g.first_data) e))
+    by b l in_data some false q = absurd (false≢true (sym (ap (λ t. is_some (cond t (h b l) None)) q) ∙ some))
+
+pub core-names : (o : Origin) (s : Super) → o.sizes ≡ sample_sizes → s.block_type ≡ 2 → s.first_data ≡ 4 → s.blocks ≡ 64 → NamesSizes o.sizes (head_of s)
+core-names o s e type first blocks = record {
+  block_type = type;
+  first_data = first ∙ sym (ap (λ (g : Geometry). g.first_data) e);
+  blocks = blocks ∙ sym (ap (λ (g : Geometry). g.blocks) e);
+}
+
+pub first-source : {o o' : Origin} {h mine theirs : Held} {m : Lent} → ((b l : ℕ) → b < 64 → l < 16 → IsSome (h b l)) → Parts h core_ranges mine theirs → o.sizes ≡ sample_sizes → o' ≡ o → m ≡ nothing_lent → IsSource o theirs o' mine m 64
 first-source {o} {o'} {h} {mine} {theirs} {m} held parts e f n = record {
   sizes = e;
   home = f;
   lent = n;
   apart = record { at = λ b l some. none_from (mine b l) (none (is_some (mine b l)) refl b l some) };
-  whole = λ b low most. record { at = λ l within. IsSome-kept parts b l (in_range-other super_range b l (λ same. absurd (omega (arith, same, low)))) (held b l most (omega (arith, within, ap (λ q. q.block_size) e))) };
-  more = IsSome-kept parts 1 0 (in_range-other super_range 1 0 (λ same. absurd (omega (arith, same)))) (held 1 0 (omega arith) (omega arith));
+  whole = λ b low most. record { at = λ l within. IsSome-kept parts b l (core-past b l low) (held b l most (omega (arith, within, ap (λ q. q.block_size) e))) };
+  more = IsSome-kept parts 1 0 core-before (held 1 0 (omega arith) (omega arith));
 }
   where
     away : Apart mine theirs
@@ -207,7 +281,7 @@ none-free t b e owned = by (nat_lt b t.geometry.blocks) refl
         ∙ (ap (λ q. nat_le t.geometry.first_data b && q) (and-none (nat_lt b t.geometry.blocks)) ∙ and-none (nat_le t.geometry.first_data b))
     by false f = ap (λ q. nat_le t.geometry.first_data b && (q && (owned_lines t b == 0))) f ∙ and-none (nat_le t.geometry.first_data b)
 
-pub mount-empty : {o : Origin} {h mine theirs : Held} {m : Lent} {t : OwnerTable} {list : List ℕ} → ((b l : ℕ) → b < 64 → l < 16 → IsSome (h b l)) → Parts h (super_range ∷ []) mine theirs → o.sizes ≡ sample_sizes → m ≡ nothing_lent → t.geometry ≡ sample_sizes → length t.owners ≡ 1024 → ((k : ℕ) → k < 1024 → get_or t.owners k 0 ≡ 2) → list ≡ 0 ∷ [] → CanMount o theirs m t list
+pub mount-empty : {o : Origin} {h mine theirs : Held} {m : Lent} {t : OwnerTable} {list : List ℕ} → ((b l : ℕ) → b < 64 → l < 16 → IsSome (h b l)) → Parts h core_ranges mine theirs → o.sizes ≡ sample_sizes → m ≡ nothing_lent → t.geometry ≡ sample_sizes → length t.owners ≡ 1024 → ((k : ℕ) → k < 1024 → get_or t.owners k 0 ≡ 2) → list ≡ 0 ∷ [] → CanMount o theirs m t list
 mount-empty {o} {h} {mine} {theirs} {m} {t} {list} held parts e lent f count owned is = record {
   table = record {
     sizes = (let P : Geometry → Type 0 = IsGeometry in subst P (sym f) sample-sizes);
@@ -244,14 +318,31 @@ order-left {S} old new e =
 
 -- ---- the line of inode 3
 
-pub zero-content : (g : Geometry) (xs : List (List ℕ)) → g ≡ sample_sizes → 2 < length xs → get_or xs 2 [] ≡ replicate 1024 0 → of_content g xs 2 2 ≡ Some (replicate 64 0)
-unfolding of_content line_of
-zero-content g xs e some zeros =
-    ap (λ q. cond (q && nat_lt (2 * 64) g.block_size) (Some (line_of (get_or xs 2 []) 2)) None) (lt 2 (length xs) some)
-    ∙ (ap (λ q. cond (nat_lt (2 * 64) q.block_size) (Some (line_of (get_or xs 2 []) 2)) None) e ∙ ap (λ q. Some (line_of q 2)) zeros)
+-- the lines of the stake's blocks
+pub content-line : (g : Geometry) (xs : List (List ℕ)) (b l : ℕ) → g ≡ sample_sizes → b < length xs → l < 16 → of_content g xs b l ≡ Some (line_of (get_or xs b []) l)
+unfolding of_content
+content-line g xs b l e some low =
+    ap (λ q. cond (q && nat_lt (l * 64) g.block_size) (Some (line_of (get_or xs b []) l)) None) (lt b (length xs) some)
+    ∙ (ap (λ q. cond (nat_lt (l * 64) q.block_size) (Some (line_of (get_or xs b []) l)) None) e
+    ∙ ap (λ q. cond q (Some (line_of (get_or xs b []) l)) None) (lt (l * 64) 1024 (omega (arith, low))))
   where
     lt : (x y : ℕ) → x < y → nat_lt x y ≡ true
     lt x y h = grind (nat_tests, arith)
+
+zeros-first : line_of (replicate 1024 0) 0 ≡ replicate 64 0
+unfolding line_of
+zeros-first = refl
+
+zeros-third : line_of (replicate 1024 0) 2 ≡ replicate 64 0
+unfolding line_of
+zeros-third = refl
+
+-- the lines of the inodes 1 and 3 in a block of zero bytes
+pub first-content : (g : Geometry) (xs : List (List ℕ)) → g ≡ sample_sizes → 2 < length xs → get_or xs 2 [] ≡ replicate 1024 0 → of_content g xs 2 0 ≡ Some (replicate 64 0)
+first-content g xs e some zeros = content-line g xs 2 0 e some (omega arith) ∙ (ap (λ q. Some (line_of q 0)) zeros ∙ ap Some zeros-first)
+
+pub zero-content : (g : Geometry) (xs : List (List ℕ)) → g ≡ sample_sizes → 2 < length xs → get_or xs 2 [] ≡ replicate 1024 0 → of_content g xs 2 2 ≡ Some (replicate 64 0)
+zero-content g xs e some zeros = content-line g xs 2 2 e some (omega arith) ∙ (ap (λ q. Some (line_of q 2)) zeros ∙ ap Some zeros-third)
 
 -- the place of inode 3
 abbrev pub third : Place
@@ -272,6 +363,15 @@ line-apart {h} {k} {part} p away is = record { at = λ c l some. ap (λ q. q c l
     by true q e = e
     by false q e = refl
 
-pub line-kept : {h mine theirs : Held} {x : List ℕ} → Parts h (super_range ∷ []) mine theirs → h 2 2 ≡ Some x → mine 2 2 ≡ Some x
-unfolding rest
-line-kept {h} {mine} {theirs} {x} parts is = ap (λ q. q 2 2) parts.kept ∙ (ap (λ t. cond t None (h 2 2)) (in_range-other super_range 2 2 (λ same. absurd (omega (arith, same)))) ∙ is)
+-- it has no line of a data block
+pub line-only : {o : Origin} (k : Held) {part : Held} (p : Place) → part ≡ line_alone p k → p.block < 4 → o.sizes ≡ sample_sizes → HoldsOnly o part (λ _. 0)
+unfolding line_alone
+line-only {o} k {part} p is low e = record { only = λ b l some in_data. by b l in_data (sym (ap (λ q. is_some (q b l)) is) ∙ some) (b == p.block) refl }
+  where
+    by : (b l : ℕ) → IsDataBlock o.sizes b → is_some (cond ((b == p.block) && (l == p.line)) (k b l) None) ≡ true → (t : Bool) → (b == p.block) ≡ t → 0 < 0
+    by b l in_data some true q = absurd (omega (arith, eqb-true b p.block q, low, in_data.least, ap (λ (g : Geometry). g.first_data) e))
+    by b l in_data some false q = absurd (false≢true (sym (ap (λ t. is_some (cond (t && (l == p.line)) (k b l) None)) q) ∙ some))
+
+pub line-kept : {h mine theirs : Held} {x : List ℕ} → Parts h core_ranges mine theirs → h 2 2 ≡ Some x → mine 2 2 ≡ Some x
+unfolding rest covers
+line-kept {h} {mine} {theirs} {x} parts is = ap (λ q. q 2 2) parts.kept ∙ is

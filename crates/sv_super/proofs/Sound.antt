@@ -11,12 +11,13 @@ use Rattle.sv_form.specs.declared.geometry.Geometry.{Geometry}
 use Rattle.sv_store.specs.Held.{Apart, Both, Held, HoldsBlock, InRange, Lent, Origin, SameLines, line_of, nothing_lent, put}
 use Rattle.sv_store.proofs.Holding.{SameLines-put, eqb_same, is_some-Both}
 use Rattle.sv_super.specs.Calls.{CanMount, Links, is_free}
-use Rattle.sv_super.specs.Core.{IsKept, IsSound, free_times, less}
+use Rattle.sv_super.specs.Core.{HoldsOnly, IsKept, IsSound, free_times, less}
 use Rattle.sv_super.specs.Count.{one_if, sum_below, times}
 use Rattle.sv_super.specs.FreeList.{HasList, IsChain, IsNext, after, last, list_of, taken}
 use Rattle.sv_super.proofs.Chains.{chain-more, chain-next, chain-rest, chain-spelled, frame, length-taken, taken-is, taken-more}
 use Rattle.sv_super.proofs.Counts.{few, length-times, one-le, other, sum-ext, times-at, times-nil, times-cons, times-first, times-snoc}
 use Rattle.sv_super.proofs.Fronts.{block_list}
+use Rattle.sv_super.proofs.OnlyFree.{only-both, only-fewer, only-home, only-less}
 
 -- ---- a block less
 
@@ -60,6 +61,7 @@ kept-aside {o} {o'} {h} {h'} {m} {m'} {list} {aside} {aside'} {n} {spare} {room}
   record {
     sound = sound;
     chain = subst (λ q. IsChain h' list q) (sym order) chain;
+    only = only;
     fits = (let long = ap length (split) in let more = length_more aside' b in let old = kept.fits in omega arith);
   },
   order,
@@ -96,10 +98,15 @@ kept-aside {o} {o'} {h} {h'} {m} {m'} {list} {aside} {aside'} {n} {spare} {room}
         subst P (sym home)
         (subst (λ q. IsSound o h' m' (free_times q aside')) (sym order) (sound-less (free_times (taken n h list) aside') b sizes kept.sound counts cut lent)))
 
+    only : HoldsOnly o' h' (free_times (taken n h' list) aside')
+    only =
+        only-home home
+        (subst (λ q. HoldsOnly o h' (free_times q aside')) (sym order) (only-less (free_times (taken n h list) aside') b kept.only counts cut))
+
 -- the first of the chain is taken
 pub kept-chained : {o o' : Origin} {h h' : Held} {m m' : Lent} {list list' aside : List ℕ} {n n' spare room : ℕ} (b : ℕ) → IsGeometry o.sizes → IsKept o h m list n aside spare room → n' + 1 ≡ n → b ≡ last list → list' ≡ after h list → o' ≡ o → h' ≡ less b h → m' ≡ nothing_lent → IsKept o' h' m' list' n' aside spare room × (taken n h list ≡ b ∷ taken n' h' list')
 kept-chained {o} {o'} {h} {h'} {m} {m'} {list} {list'} {aside} {n} {n'} {spare} {room} b sizes kept less_one is next home cut lent =
-    (record { sound = sound; chain = subst (λ q. IsChain h' list' q) (sym order) chain; fits = kept.fits }, split ∙ ap (λ q. b ∷ q) (sym order))
+    (record { sound = sound; chain = subst (λ q. IsChain h' list' q) (sym order) chain; only = only; fits = kept.fits }, split ∙ ap (λ q. b ∷ q) (sym order))
   where
     rest : List ℕ
     rest = taken n' h (after h list)
@@ -134,6 +141,9 @@ kept-chained {o} {o'} {h} {h'} {m} {m'} {list} {list'} {aside} {n} {n'} {spare} 
         (let P : Origin → Type 0 = λ q. IsSound q h' m' (free_times (taken n' h' list') aside) in
         subst P (sym home)
         (subst (λ q. IsSound o h' m' (free_times q aside)) (sym order) (sound-less (free_times rest aside) b sizes kept.sound counts cut lent)))
+
+    only : HoldsOnly o' h' (free_times (taken n' h' list') aside)
+    only = only-home home (subst (λ q. HoldsOnly o h' (free_times q aside)) (sym order) (only-less (free_times rest aside) b kept.only counts cut))
 
 -- ---- a block more
 
@@ -222,9 +232,9 @@ chain-stays {o} {h} {k} {new} {m} {list} {aside} {n} b sizes range kept holds aw
     kept.chain
 
 -- a block is freed into the chain
-pub kept-linked : {o o' : Origin} {h k new : Held} {m m' : Lent} {list list' aside : List ℕ} {n n' spare spare' room : ℕ} (b : ℕ) → IsGeometry o.sizes → InRange o.sizes (Both h k) → IsKept o h m list n aside spare room → IsDataBlock o.sizes b → HoldsBlock o k b → Apart h k → Joined h k new b → (old : Held) → Links old new list list' b → n' ≡ n + 1 → spare' ≤ spare → o' ≡ o → m' ≡ nothing_lent → IsKept o' new m' list' n' aside spare' room × (taken n' new list' ≡ b ∷ taken n h list)
-kept-linked {o} {o'} {h} {k} {new} {m} {m'} {list} {list'} {aside} {n} {n'} {spare} {spare'} {room} b sizes range kept in_data holds away joined old links more fewer home lent =
-    (record { sound = sound; chain = subst (λ q. IsChain new list' q) (sym order) chain; fits = (let fits = kept.fits in omega arith) }, order)
+pub kept-linked : {o o' : Origin} {h k new : Held} {m m' : Lent} {list list' aside : List ℕ} {n n' spare spare' room : ℕ} (b : ℕ) → IsGeometry o.sizes → InRange o.sizes (Both h k) → IsKept o h m list n aside spare room → IsDataBlock o.sizes b → HoldsBlock o k b → HoldsOnly o k (λ c. one_if (b == c)) → Apart h k → Joined h k new b → (old : Held) → Links old new list list' b → n' ≡ n + 1 → spare' ≤ spare → o' ≡ o → m' ≡ nothing_lent → IsKept o' new m' list' n' aside spare' room × (taken n' new list' ≡ b ∷ taken n h list)
+kept-linked {o} {o'} {h} {k} {new} {m} {m'} {list} {list'} {aside} {n} {n'} {spare} {spare'} {room} b sizes range kept in_data holds mine away joined old links more fewer home lent =
+    (record { sound = sound; chain = subst (λ q. IsChain new list' q) (sym order) chain; only = only; fits = (let fits = kept.fits in omega arith) }, order)
   where
     chain : IsChain new list' (b ∷ taken n h list)
     chain = chain-more new list' list b (taken n h list) links.next links.then (chain-stays b sizes range kept holds away joined)
@@ -238,10 +248,16 @@ kept-linked {o} {o'} {h} {k} {new} {m} {m'} {list} {list'} {aside} {n} {n'} {spa
         subst P (sym home)
         (subst (λ q. IsSound o new m' (free_times q aside)) (sym order) (sound-more (free_times (b ∷ taken n h list) aside) b sizes kept.sound in_data holds away joined (λ c. let q = times-cons c b (taken n h list) in omega arith) lent)))
 
+    only : HoldsOnly o' new (free_times (taken n' new list') aside)
+    only =
+        only-home home
+        (subst (λ q. HoldsOnly o new (free_times q aside)) (sym order)
+        (only-both (free_times (b ∷ taken n h list) aside) kept.only mine joined.lines (λ c. let q = times-cons c b (taken n h list) in omega arith)))
+
 -- a block is freed and set aside
-pub kept-set_aside : {o o' : Origin} {h k new : Held} {m m' : Lent} {list aside aside' : List ℕ} {n spare spare' room room' : ℕ} (b : ℕ) → IsGeometry o.sizes → InRange o.sizes (Both h k) → IsKept o h m list n aside spare room → IsDataBlock o.sizes b → HoldsBlock o k b → Apart h k → Joined h k new b → aside' ≡ aside ++ b ∷ [] → spare' + 1 ≡ spare → room ≤ room' → o' ≡ o → m' ≡ nothing_lent → IsKept o' new m' list n aside' spare' room' × (taken n new list ≡ taken n h list)
-kept-set_aside {o} {o'} {h} {k} {new} {m} {m'} {list} {aside} {aside'} {n} {spare} {spare'} {room} {room'} b sizes range kept in_data holds away joined added fewer larger home lent =
-    (record { sound = sound; chain = subst (λ q. IsChain new list q) (sym order) chain; fits = (let fits = kept.fits in let long = ap length added ∙ length_more aside in omega arith) }, order)
+pub kept-set_aside : {o o' : Origin} {h k new : Held} {m m' : Lent} {list aside aside' : List ℕ} {n spare spare' room room' : ℕ} (b : ℕ) → IsGeometry o.sizes → InRange o.sizes (Both h k) → IsKept o h m list n aside spare room → IsDataBlock o.sizes b → HoldsBlock o k b → HoldsOnly o k (λ c. one_if (b == c)) → Apart h k → Joined h k new b → aside' ≡ aside ++ b ∷ [] → spare' + 1 ≡ spare → room ≤ room' → o' ≡ o → m' ≡ nothing_lent → IsKept o' new m' list n aside' spare' room' × (taken n new list ≡ taken n h list)
+kept-set_aside {o} {o'} {h} {k} {new} {m} {m'} {list} {aside} {aside'} {n} {spare} {spare'} {room} {room'} b sizes range kept in_data holds mine away joined added fewer larger home lent =
+    (record { sound = sound; chain = subst (λ q. IsChain new list q) (sym order) chain; only = only; fits = (let fits = kept.fits in let long = ap length added ∙ length_more aside in omega arith) }, order)
   where
     length_more : (xs : List ℕ) → length (xs ++ b ∷ []) ≡ length xs + 1
     length_more [] = refl
@@ -258,6 +274,12 @@ kept-set_aside {o} {o'} {h} {k} {new} {m} {m'} {list} {aside} {aside'} {n} {spar
         (let P : Origin → Type 0 = λ q. IsSound q new m' (free_times (taken n new list) aside') in
         subst P (sym home)
         (subst (λ q. IsSound o new m' (free_times q aside')) (sym order) (sound-more (free_times (taken n h list) aside') b sizes kept.sound in_data holds away joined (λ c. let e = ap (times c) added in let q = times-snoc c b aside in omega arith) lent)))
+
+    only : HoldsOnly o' new (free_times (taken n new list) aside')
+    only =
+        only-home home
+        (subst (λ q. HoldsOnly o new (free_times q aside')) (sym order)
+        (only-both (free_times (taken n h list) aside') kept.only mine joined.lines (λ c. let e = ap (times c) added in let q = times-snoc c b aside in omega arith)))
 
 -- what a link leaves of what came in
 pub joined-linked : (h k new : Held) {mid : Held} {list list' : List ℕ} (b : ℕ) → mid ≡ Both h k → Links mid new list list' b → Joined h k new b
@@ -315,11 +337,12 @@ data-same {o} {o'} {b} {b'} e n is =
 
 -- ---- the mount
 
-pub kept-new : {o : Origin} {h : Held} {m : Lent} {t : OwnerTable} {list list' aside : List ℕ} {count len room : ℕ} → CanMount o h m t list → list' ≡ take len list → len ≡ length list → (sizes : Geometry) → sizes ≡ o.sizes → count ≡ sum_below sizes.blocks (λ b. one_if (is_free t b)) → aside ≡ [] → IsKept o h m list' count aside 0 room × IsChain h list (taken count h list')
-kept-new {o} {h} {m} {t} {list} {list'} {aside} {count} {len} {room} can copy long sizes value counted none = (
+pub kept-new : {o : Origin} {h : Held} {m : Lent} {t : OwnerTable} {list list' aside : List ℕ} {count len room : ℕ} → CanMount o h m t list → HoldsOnly o h (λ b. one_if (is_free t b)) → list' ≡ take len list → len ≡ length list → (sizes : Geometry) → sizes ≡ o.sizes → count ≡ sum_below sizes.blocks (λ b. one_if (is_free t b)) → aside ≡ [] → IsKept o h m list' count aside 0 room × IsChain h list (taken count h list')
+kept-new {o} {h} {m} {t} {list} {list'} {aside} {count} {len} {room} can alone copy long sizes value counted none = (
   record {
     sound = subst (λ q. IsSound o h m (free_times q aside)) (sym order) sound;
     chain = subst (λ q. IsChain h list' q) (sym order) chain;
+    only = subst (λ q. HoldsOnly o h (free_times q aside)) (sym order) (only-fewer (free_times can.order aside) alone (λ b l some in_data. some) (λ b. let e = can.each b in omega (arith, e)));
     fits = (let e = ap length none in omega arith);
   },
   subst (λ q. IsChain h list q) (sym order) can.chain,
@@ -390,14 +413,16 @@ pub record IsReady (o : Origin) (h k : Held) (b : ℕ) : Type 0 where
   pub range : InRange o.sizes (Both h k)
   pub in_data : IsDataBlock o.sizes b
   pub block : HoldsBlock o k b
+  pub only : HoldsOnly o k (λ c. one_if (b == c))
   pub away : Apart h k
 
-pub ready : {S : Type 0} (origin : S → Origin) (held : S → Held) (now inside part merged : S) (sizes : Geometry) (b : ℕ) → inside ≡ now → IsDataBlock (origin now).sizes b → HoldsBlock (origin now) (held part) b → Apart (held now) (held part) → held merged ≡ Both (held inside) (held part) → origin merged ≡ origin inside → sizes ≡ (origin merged).sizes → IsGeometry sizes → InRange sizes (held merged) → IsReady (origin inside) (held inside) (held part) b
-ready {S} origin held now inside part merged sizes b same in_data block away joins home value is range = record {
+pub ready : {S : Type 0} (origin : S → Origin) (held : S → Held) (now inside part merged : S) (sizes : Geometry) (b : ℕ) → inside ≡ now → IsDataBlock (origin now).sizes b → HoldsBlock (origin now) (held part) b → HoldsOnly (origin now) (held part) (λ c. one_if (b == c)) → Apart (held now) (held part) → held merged ≡ Both (held inside) (held part) → origin merged ≡ origin inside → sizes ≡ (origin merged).sizes → IsGeometry sizes → InRange sizes (held merged) → IsReady (origin inside) (held inside) (held part) b
+ready {S} origin held now inside part merged sizes b same in_data block mine away joins home value is range = record {
   sizes = (let P : Geometry → Type 0 = IsGeometry in subst P at_home is);
   range = (let P : Geometry → Type 0 = λ q. InRange q (Both (held inside) (held part)) in subst P at_home (let Q : Held → Type 0 = λ q. InRange sizes q in subst Q joins range));
   in_data = (let P : Origin → Type 0 = λ q. IsDataBlock q.sizes b in subst P (sym (ap origin same)) in_data);
   block = (let P : Origin → Type 0 = λ q. HoldsBlock q (held part) b in subst P (sym (ap origin same)) block);
+  only = only-home (ap origin same) mine;
   away = (let P : Held → Type 0 = λ q. Apart q (held part) in subst P (sym (ap held same)) away);
 }
   where
@@ -419,4 +444,4 @@ pushed xs b t ok is = is ∙ ap (λ q. cond q (xs ++ b ∷ []) xs) ok
 pub kept-aside_more : {o o' : Origin} {h k new : Held} {m m' : Lent} {list list' aside aside' : List ℕ} {n spare spare' room room' : ℕ} (b : ℕ) → IsReady o h k b → IsKept o h m list n aside spare room → Joined h k new b → list' ≡ list → aside' ≡ aside ++ b ∷ [] → spare' + 1 ≡ spare → room ≤ room' → o' ≡ o → m' ≡ nothing_lent → IsKept o' new m' list' n aside' spare' room' × (taken n new list' ≡ taken n h list)
 kept-aside_more {o} {o'} {h} {k} {new} {m} {m'} {list} {list'} {aside} {aside'} {n} {spare} {spare'} {room} {room'} b is kept joined same added fewer larger home lent =
     subst (λ q. IsKept o' new m' q n aside' spare' room' × (taken n new q ≡ taken n h list)) (sym same)
-    (kept-set_aside b is.sizes is.range kept is.in_data is.block is.away joined added fewer larger home lent)
+    (kept-set_aside b is.sizes is.range kept is.in_data is.block is.only is.away joined added fewer larger home lent)

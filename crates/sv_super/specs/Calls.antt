@@ -4,8 +4,9 @@ use Rattle.sv_dev.specs.Causes.{Rose}
 use Rattle.sv_form.specs.Geometry.{IsNumber, block_lines, inode_place}
 use Rattle.sv_form.specs.OwnerTable.{OwnerTable, IsOwnerTable}
 use Rattle.sv_form.specs.Owners.{owner_of}
+use Rattle.sv_form.specs.declared.superblock.Super.{Super}
 use Rattle.sv_store.specs.Held.{Held, Lent, Origin, HoldsBlock, nothing_lent, put}
-use Rattle.sv_super.specs.Core.{Core, HoldsInodes, HoldsSuper, line_alone, line_less}
+use Rattle.sv_super.specs.Core.{Core, Head, HoldsInodes, HoldsSuper, line_alone, line_less}
 use Rattle.sv_super.specs.Count.{one_if, sum_below, times}
 use Rattle.sv_super.specs.FreeList.{HasList, IsChain, IsNext, after}
 use Rattle.sv_super.specs.Inodes.{Inodes, filled, is_free_inode, without_last}
@@ -38,6 +39,10 @@ pub record CanMountInodes (o : Origin) (h : Held) (used : List Bool) (cached : L
   pub lines : HoldsInodes o h used
   pub free : (n : ℕ) → 0 < times n cached → is_free_inode used n ≡ true
   pub once : (n : ℕ) → times n cached ≤ 1
+
+-- what a superblock says of the sizes
+abbrev pub head_of : Super → Head
+head_of s = record { block_type = s.block_type; first_data = s.first_data; blocks = s.blocks }
 
 -- ---- a block is taken
 

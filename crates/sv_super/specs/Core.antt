@@ -1,6 +1,7 @@
 -- The free blocks and inodes, as they are seen from above.
 use Rattle.std.specs.Prelude.{◌≡◌, ◌≤◌, ◌<◌, ◌+◌, ◌==◌, ◌&&◌, ℕ, Bool, true, List, length, replicate, Some, None, IsSome, if◌then◌else◌}
 use Rattle.sv_form.specs.Geometry.{IsDataBlock, inode_count, inode_place, super_place}
+use Rattle.sv_form.specs.declared.geometry.Geometry.{Geometry}
 use Rattle.sv_form.specs.declared.place.Place.{Place}
 use Rattle.sv_store.specs.Held.{Held, Lent, Origin, HoldsBlock, nothing_lent}
 use Rattle.sv_super.specs.Count.{times}
@@ -12,6 +13,12 @@ pub record Head : Type 0 where
   pub block_type : ℕ
   pub first_data : ℕ
   pub blocks : ℕ
+
+-- the superblock says of the sizes what they are; type 2 stands for blocks of 1,024 bytes
+pub record NamesSizes (g : Geometry) (head : Head) : Type 0 where
+  pub block_type : head.block_type ≡ 2
+  pub first_data : head.first_data ≡ g.first_data
+  pub blocks : head.blocks ≡ g.blocks
 
 -- What a core is: its stake; the blocks of the chain, in the order in which they are taken; those that were set aside, of
 -- which the last is taken first; how many more can be set aside without memory; the inodes; and what
@@ -45,10 +52,16 @@ pub record IsSound (o : Origin) (h : Held) (m : Lent) (f : ℕ → ℕ) : Type 0
   pub whole : (b : ℕ) → 0 < f b → HoldsBlock o h b
   pub once : (b : ℕ) → f b ≤ 1
 
--- what is kept: the chain begins with this list and has so many blocks, and there is room for those set aside
+-- of the data blocks, lines are held of those alone that f counts
+pub record HoldsOnly (o : Origin) (h : Held) (f : ℕ → ℕ) : Type 0 where
+  pub only : (b l : ℕ) → IsSome (h b l) → IsDataBlock o.sizes b → 0 < f b
+
+-- what is kept: the chain begins with this list and has so many blocks, there is room for those set aside, and no other data
+-- block has a line that is held
 pub record IsKept (o : Origin) (h : Held) (m : Lent) (list : List ℕ) (chained : ℕ) (aside : List ℕ) (spare room : ℕ) : Type 0 where
   pub sound : IsSound o h m (free_times (taken chained h list) aside)
   pub chain : IsChain h list (taken chained h list)
+  pub only : HoldsOnly o h (free_times (taken chained h list) aside)
   pub fits : length aside + spare ≤ room
 
 -- each inode has a place in the map, and the line of each free one is held and zero bytes
@@ -56,10 +69,16 @@ pub record HoldsInodes (o : Origin) (h : Held) (used : List Bool) : Type 0 where
   pub size : length used ≡ inode_count o.sizes
   pub zeros : (n : ℕ) → is_free_inode used n ≡ true → h (inode_place o.sizes n).block (inode_place o.sizes n).line ≡ Some (replicate 64 0)
 
--- what is kept of blocks and of inodes
-pub record IsCore (o : Origin) (h : Held) (m : Lent) (list : List ℕ) (chained : ℕ) (aside : List ℕ) (spare room : ℕ) (used : List Bool) : Type 0 where
+-- the line of inode 1, which is never used, is held and zero bytes
+pub record HoldsFirst (o : Origin) (h : Held) : Type 0 where
+  pub line : h (inode_place o.sizes 1).block (inode_place o.sizes 1).line ≡ Some (replicate 64 0)
+
+-- what is kept of blocks, of inodes, and of the sizes that the superblock names
+pub record IsCore (o : Origin) (h : Held) (m : Lent) (list : List ℕ) (chained : ℕ) (aside : List ℕ) (spare room : ℕ) (used : List Bool) (head : Head) : Type 0 where
   pub blocks : IsKept o h m list chained aside spare room
   pub inodes : HoldsInodes o h used
+  pub first : HoldsFirst o h
+  pub names : NamesSizes o.sizes head
 
 -- the lines of block b alone, and those of all others
 unfoldable pub alone : ℕ → Held → Held

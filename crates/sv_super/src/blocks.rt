@@ -1,12 +1,15 @@
 // The free blocks, and the core that holds them.
-ghost use Rattle.std.specs.Prelude.{◌≡◌, ◌≢◌, ◌≤◌, ◌<◌, ◌+◌, ◌||◌, ◌∷◌, ℕ, max, false, IfOk, IfErr, OnOk, OnErr, length};
+ghost use Rattle.std.specs.Prelude.{◌≡◌, ◌≢◌, ◌≤◌, ◌<◌, ◌+◌, ◌==◌, ◌||◌, ◌∷◌, ℕ, max, false, IfOk, IfErr, OnOk, OnErr, length};
 ghost use Rattle.sv_dev.specs.Causes.{counted};
 ghost use Rattle.sv_form.specs.Geometry.{IsDataBlock};
+ghost use Rattle.sv_form.specs.Superblock.{IsSuper};
 ghost use Rattle.sv_store.specs.Causes.{HasReason};
 ghost use Rattle.sv_store.specs.Held.{Apart, Both, HoldsBlock, SameLines, nothing_lent};
-ghost use Rattle.sv_super.specs.Calls.{CanMount, CanMountInodes, Frees, Takes, TakesAside, TakesChained};
-ghost use Rattle.sv_super.specs.Core.{IsSound, alone, free_times, left_of, less};
+ghost use Rattle.sv_super.specs.Calls.{CanMount, CanMountInodes, Frees, Takes, TakesAside, TakesChained, head_of, is_free};
+ghost use Rattle.sv_super.specs.Core.{HoldsFirst, HoldsOnly, IsSound, NamesSizes, alone, free_times, left_of, less};
+ghost use Rattle.sv_super.specs.Count.{one_if};
 ghost use Rattle.sv_super.specs.FreeList.{IsChain};
+ghost use Rattle.sv_super.specs.Written.{IsWritten, super_bytes};
 
 mod flush;
 mod inode_lines;
@@ -46,20 +49,25 @@ impl<S: Stake> Model for SuperCore<S> {
 
     ghost view = { λ c. record { stake = c.stake; chain = taken c.chained (S.held c.stake) c.list.numbers.items; aside = c.aside.items; spare = c.spare; inodes = c.inodes; head = record { block_type = c.block_type; first_data = c.first_data; blocks = c.blocks } } };
 
-    ghost invariant = { λ c. IsCore (S.origin c.stake) (S.held c.stake) (S.lent c.stake) c.list.numbers.items c.chained c.aside.items c.spare (vec_capacity c.aside) c.inodes.used };
+    ghost invariant = { λ c. IsCore (S.origin c.stake) (S.held c.stake) (S.lent c.stake) c.list.numbers.items c.chained c.aside.items c.spare (vec_capacity c.aside) c.inodes.used (record { block_type = c.block_type; first_data = c.first_data; blocks = c.blocks }) };
 }
 
 impl<S: Stake> SuperCore<S> {
-    /// The free blocks and inodes of an image that was checked. Without memory the stake comes back as it was.
+    /// The free blocks and inodes of an image that was checked, with the line of inode 1, and no other data block. Where the held
+    /// superblock spells the one that was read, it is as a flush leaves it. Without memory the stake comes back as it was.
     pub fn new(alloc: Global, stake: S, mounted: &Mounted) -> Result<SuperCore<S>, (S, NoMemory)>
         requires blocks { CanMount (S.origin stake) (S.held stake) (S.lent stake) mounted.now.owners mounted.now.head.free.items }
         requires inodes { CanMountInodes (S.origin stake) (S.held stake) mounted.now.used.items mounted.now.head.inodes.items }
+        requires first { HoldsFirst (S.origin stake) (S.held stake) }
+        requires only { HoldsOnly (S.origin stake) (S.held stake) (λ b. one_if (is_free mounted.now.owners b)) }
+        requires names { NamesSizes (S.origin stake).sizes (head_of mounted.now.head) }
         ensures stake { IfOk result (λ core. core.stake ≡ stake) }
         ensures chain { IfOk result (λ core. IsChain (S.held stake) mounted.now.head.free.items core.chain) }
         ensures aside { IfOk result (λ core. length core.aside ≡ 0) }
         ensures spare { IfOk result (λ core. core.spare ≡ 0) }
         ensures inodes { IfOk result (λ core. core.inodes ≡ record { used = mounted.now.used.items; cached = mounted.now.head.inodes.items; remembered = 2 }) }
-        ensures head { IfOk result (λ core. core.head ≡ record { block_type = mounted.now.head.block_type; first_data = mounted.now.head.first_data; blocks = mounted.now.head.blocks }) }
+        ensures head { IfOk result (λ core. core.head ≡ head_of mounted.now.head) }
+        ensures written { IfOk result (λ core. IsSuper (super_bytes (S.origin stake).sizes (S.held stake)) mounted.now.head → IsWritten (S.origin stake).sizes (S.held stake) core.head core.chain core.inodes.cached) }
         ensures back { IfErr result (λ refused. refused.0 ≡ stake) }
     {
         let sizes = stake.geometry();
@@ -82,10 +90,13 @@ impl<S: Stake> SuperCore<S> {
         })
     }
 
-    /// How many blocks are free, those set aside included.
+    /// How many blocks are free, those set aside included. Each is a data block of which all lines are held, and free once; no
+    /// line of another data block is held. The superblock names the sizes.
     pub fn left(&self) -> u32
         ensures left { result ≡ left_of self.now }
         ensures sound { IsSound (S.origin self.now.stake) (S.held self.now.stake) (S.lent self.now.stake) (free_times self.now.chain self.now.aside) }
+        ensures only { HoldsOnly (S.origin self.now.stake) (S.held self.now.stake) (free_times self.now.chain self.now.aside) }
+        ensures names { NamesSizes (S.origin self.now.stake).sizes self.now.head }
     {
         let _sizes = self.stake.geometry();
         self.chained + self.aside.len() as u32
@@ -202,12 +213,13 @@ impl<S: Stake> SuperCore<S> {
         Ok(())
     }
 
-    /// Takes a block back that is not free, with its lines (Bach, chapter 4.7, algorithm free). Where the full list
-    /// cannot be written for a fault, the block is set aside.
+    /// Takes a block back that is not free, with its lines, and those of no other data block (Bach, chapter 4.7, algorithm
+    /// free). Where the full list cannot be written for a fault, the block is set aside.
     pub fn free<R: Wait>(&mut self, rt: &R, b: u32, part: S)
         requires spare { 1 ≤ self.old.spare }
         requires in_data { IsDataBlock (S.origin self.old.stake).sizes b }
         requires block { HoldsBlock (S.origin self.old.stake) (S.held part) b }
+        requires only { HoldsOnly (S.origin self.old.stake) (S.held part) (λ c. one_if (b == c)) }
         requires apart { Apart (S.held self.old.stake) (S.held part) }
         requires lent { S.lent part ≡ nothing_lent }
         requires origin { S.origin part ≡ S.origin self.old.stake }

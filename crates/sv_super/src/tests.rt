@@ -3,7 +3,7 @@ ghost use Rattle.std.specs.Prelude.{◌≡◌, ◌≢◌, ◌≤◌, ◌<◌, �
 ghost use Rattle.std.specs.List.{All};
 ghost use Rattle.sv_form.specs.Geometry.{IsDataBlock};
 ghost use Rattle.sv_store.specs.Held.{Apart, HoldsBlock, nothing_lent};
-ghost use Rattle.sv_super.specs.Calls.{CanMount};
+ghost use Rattle.sv_super.specs.Calls.{head_of};
 ghost use Rattle.sv_super.specs.Core.{left_of};
 ghost use Rattle.sv_super.specs.Sample.{IsSource, sample_sizes};
 
@@ -43,6 +43,7 @@ fn mounted(alloc: Global) -> Result<Mounted, NoMemory>
     ensures geometry { IfOk result (λ m. m.owners.geometry ≡ sample_sizes) }
     ensures count { IfOk result (λ m. length m.owners.owners ≡ 1024) }
     ensures owners { IfOk result (λ m. (k : ℕ) → k < 1024 → slice_index m.owners.owners k ≡ 2) }
+    ensures sizes { IfOk result (λ m. head_of m.head ≡ record { block_type = 2; first_data = 4; blocks = 64 }) }
     ensures list { IfOk result (λ m. m.head.free.items ≡ 0 ∷ []) }
     ensures used { IfOk result (λ m. m.used.items ≡ replicate 32 true) }
     ensures inodes { IfOk result (λ m. m.head.inodes.items ≡ []) }
@@ -223,6 +224,7 @@ fn inode_freed<S: Stake + Drop>(
 // A stake of 64 blocks, in whose parts one call fails.
 fn whole_stake(alloc: Global, failing: u64) -> Result<OwnStake, NoMemory>
     ensures held { IfOk result (λ s. (b l : ℕ) → b < 64 → l < 16 → IsSome (⟦<OwnStake as Stake>⟧.held s b l)) }
+    ensures first { IfOk result (λ s. ⟦<OwnStake as Stake>⟧.held s 2 0 ≡ Some (replicate 64 0)) }
     ensures line { IfOk result (λ s. ⟦<OwnStake as Stake>⟧.held s 2 2 ≡ Some (replicate 64 0)) }
     ensures lent { IfOk result (λ s. ⟦<OwnStake as Stake>⟧.lent s ≡ nothing_lent) }
     ensures sizes { IfOk result (λ s. (⟦<OwnStake as Stake>⟧.origin s).sizes ≡ sample_sizes) }
@@ -234,7 +236,7 @@ fn whole_stake(alloc: Global, failing: u64) -> Result<OwnStake, NoMemory>
     Ok(stake)
 }
 
-// The superblock's lines of a stake, as a core without free blocks.
+// The lines of the superblock and of inode 1, as a core without free blocks.
 fn empty_core<S: Stake>(
     alloc: Global,
     source: &mut S,
@@ -242,16 +244,24 @@ fn empty_core<S: Stake>(
     requires held { (b l : ℕ) → b < 64 → l < 16 → IsSome (S.held source.old b l) }
     requires lent { S.lent source.old ≡ nothing_lent }
     requires sizes { (S.origin source.old).sizes ≡ sample_sizes }
+    requires first { S.held source.old 2 0 ≡ Some (replicate 64 0) }
     requires line { S.held source.old 2 2 ≡ Some (replicate 64 0) }
     ensures source { IfOk result (λ made. IfOk made (λ core. IsSource (S.origin core.stake) (S.held core.stake) (S.origin source.new) (S.held source.new) (S.lent source.new) 64)) }
     ensures used { IfOk result (λ made. IfOk made (λ core. core.inodes.used ≡ replicate 32 true)) }
     ensures line { OnOk result (S.held source.new 2 2 ≡ Some (replicate 64 0)) }
 {
-    let lines = [LineRange {
-        block: 0,
-        first: 8,
-        count: 8,
-    }];
+    let lines = [
+        LineRange {
+            block: 0,
+            first: 8,
+            count: 8,
+        },
+        LineRange {
+            block: 2,
+            first: 0,
+            count: 1,
+        },
+    ];
     let mounted = mounted(alloc)?;
     let stake = source.part(alloc, &lines)?;
     Ok(SuperCore::new(alloc, stake, &mounted))

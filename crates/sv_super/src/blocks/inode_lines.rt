@@ -4,7 +4,7 @@ ghost use Rattle.sv_dev.specs.Causes.{counted};
 ghost use Rattle.sv_form.specs.Geometry.{inode_count, inode_place};
 ghost use Rattle.sv_store.specs.Held.{Apart, Both, nothing_lent};
 ghost use Rattle.sv_super.specs.Calls.{TakesInode};
-ghost use Rattle.sv_super.specs.Core.{HoldsInodes, HoldsSuper, line_alone, line_less};
+ghost use Rattle.sv_super.specs.Core.{HoldsFirst, HoldsInodes, HoldsOnly, HoldsSuper, line_alone, line_less};
 ghost use Rattle.sv_super.specs.Inodes.{IsCache, free_count, is_free_inode, with_free};
 
 use crate::SuperCore;
@@ -13,11 +13,13 @@ use sv_form::{LineRange, Place};
 use sv_store::{NoMemory, Stake};
 
 impl<S: Stake> SuperCore<S> {
-    /// How many inodes are free. The map has a place for each, and the line of each free one is held and zero bytes. Each cached
-    /// number is free and stands there once, and each free number below the remembered one is cached.
+    /// How many inodes are free. The map has a place for each, and the line of each free one is held and zero bytes, and so is that
+    /// of inode 1, which is never used. Each cached number is free and stands there once, and each free number below the remembered
+    /// one is cached.
     pub fn inodes_left(&self) -> u32
         ensures left { result ≡ free_count self.now.inodes.used }
         ensures lines { HoldsInodes (S.origin self.now.stake) (S.held self.now.stake) self.now.inodes.used }
+        ensures first { HoldsFirst (S.origin self.now.stake) (S.held self.now.stake) }
         ensures cache { IsCache self.now.inodes result }
     {
         self.inodes.left()
@@ -54,12 +56,14 @@ impl<S: Stake> SuperCore<S> {
         Ok(Some((n, part)))
     }
 
-    /// Takes an inode back that is not free, with its line, which is zero bytes (Bach, chapter 4.6, algorithm ifree).
+    /// Takes an inode back that is not free, with its line, which is zero bytes, and no line of a data block (Bach, chapter
+    /// 4.6, algorithm ifree).
     pub fn ifree(&mut self, n: u16, part: S)
         requires least { 2 ≤ n }
         requires most { n ≤ inode_count (S.origin self.old.stake).sizes }
         requires used { is_free_inode self.old.inodes.used n ≡ false }
         requires line { S.held part (inode_place (S.origin self.old.stake).sizes n).block (inode_place (S.origin self.old.stake).sizes n).line ≡ Some (replicate 64 0) }
+        requires only { HoldsOnly (S.origin self.old.stake) (S.held part) (λ _. 0) }
         requires apart { Apart (S.held self.old.stake) (S.held part) }
         requires lent { S.lent part ≡ nothing_lent }
         requires origin { S.origin part ≡ S.origin self.old.stake }

@@ -6,6 +6,7 @@ use Rattle.sv_bmap.proofs.Parts.{popped, len-is}
 use Rattle.sv_dev.specs.Causes.{counted}
 use Rattle.sv_store.specs.Held.{Held, SameLines}
 use Rattle.sv_super.specs.Core.{alone}
+use Rattle.sv_super.proofs.OnlyFree.{only-alone}
 use Rattle.sv_super.specs.Count.{times}
 use Rattle.sv_inode.specs.Truncate.{CanFreeAll, IsPart, names_of}
 use Rattle.sv_inode.proofs.GivenBack.{all-faults, apart-more, block-freed, part-at, data-freed, freed-all, freed-more, freed-none}
@@ -44,6 +45,11 @@ free-requires-clause-block g c κs within =
     (c.len-count.result - c.loop-cut._cut) (c.len-count.result - (c.loop-cut._cut + 1)) c.requires.cuts.1 c.loop-cut.invariant.items
     (omega (arith, c.loop-cut.invariant.count)) (omega (arith, c.loop-cut-test.true)) c.in-Some.ensures.items
     c.loop-cut.invariant.origin
+
+pub free-requires-clause-only : goal.free-requires-clause-only
+free-requires-clause-only g c κs within =
+    only-alone (g.S.Stake.origin c.loop-cut.core.stake) c.requires.cuts.0 c.in-Some.b
+    (part-at c.args.cuts.items c.loop-cut.cuts.items c.pop.new.self.items (c.in-Some.b, c.in-Some.part) (c.len-count.result - c.loop-cut._cut) (c.len-count.result - (c.loop-cut._cut + 1)) c.requires.cuts.1.each c.loop-cut.invariant.items (omega (arith, c.loop-cut.invariant.count)) (omega (arith, c.loop-cut-test.true)) c.in-Some.ensures.items).lines
 
 pub free-requires-clause-apart : goal.free-requires-clause-apart
 free-requires-clause-apart g c κs within =

@@ -1,14 +1,14 @@
 -- The superblock's lines are parted, and every line belongs to an inode.
 use Rattle.std.proofs.Common.{sym, ap, ◌∙◌, subst, arith}
 use Rattle.std.proofs.lemmas.Result.{IfOk-weaker}
-use Rattle.sv_store.proofs.Holding.{IsSome-kept, in_range-other}
+use Rattle.sv_store.proofs.Holding.{IsSome-kept}
 use Rattle.sv_super.specs.Sample.{IsSource}
-use Rattle.sv_super.proofs.Samples.{first-source, mount-empty, mount-no-inodes, super-part, super_range}
+use Rattle.sv_super.proofs.Samples.{core-first, core-names, core-only, core-part, first-source, mount-empty, mount-no-inodes, third-kept}
 use Rattle.sv_inode.proofs.ElevenPages.{row-kept}
 use Rattle.sv_inode.proofs.truncate_tests.empty_core.Goals as goal
 
 pub part-requires : goal.part-requires
-part-requires g c = super-part c.requires.held c.requires.lent
+part-requires g c = core-part c.requires.held c.requires.lent
 
 pub new-requires-clause-blocks : goal.new-requires-clause-blocks
 new-requires-clause-blocks g c _ _ =
@@ -19,6 +19,16 @@ new-requires-clause-blocks g c _ _ =
 pub new-requires-clause-inodes : goal.new-requires-clause-inodes
 new-requires-clause-inodes g c _ _ = mount-no-inodes (ap (λ q. q.sizes) c.in_ok-stake.ensures.new_origin ∙ c.requires.sizes)
     c.in_ok-mounted.ensures.used c.in_ok-mounted.ensures.inodes
+
+pub new-requires-clause-first : goal.new-requires-clause-first
+new-requires-clause-first g c _ _ = core-first c.requires.first c.in_ok-stake.ensures.ok (ap (λ q. q.sizes) c.in_ok-stake.ensures.new_origin ∙ c.requires.sizes)
+
+pub new-requires-clause-only : goal.new-requires-clause-only
+new-requires-clause-only g c _ _ = core-only _ c.in_ok-stake.ensures.ok (ap (λ q. q.sizes) c.in_ok-stake.ensures.new_origin ∙ c.requires.sizes)
+
+pub new-requires-clause-names : goal.new-requires-clause-names
+new-requires-clause-names g c _ _ =
+    core-names (g.S.Stake.origin c.in_ok-stake.stake) c.in_ok-mounted.mounted.head (ap (λ q. q.sizes) c.in_ok-stake.ensures.new_origin ∙ c.requires.sizes) (ap (λ q. q.block_type) c.in_ok-mounted.ensures.sizes) (ap (λ q. q.first_data) c.in_ok-mounted.ensures.sizes) (ap (λ q. q.blocks) c.in_ok-mounted.ensures.sizes)
 
 pub returns-clause-source : goal.returns-clause-source
 returns-clause-source g c =
@@ -32,8 +42,7 @@ returns-clause-source g c =
     (c.part.ensures.origin ∙ sym c.in_ok-stake.ensures.new_origin) (c.part.ensures.lends ∙ c.requires.lent)))) c.new.ensures.stake
 
 pub returns-clause-line : goal.returns-clause-line
-returns-clause-line g c = IsSome-kept c.in_ok-stake.ensures.ok 2 2 (in_range-other super_range 2 2 (λ same. absurd (omega (arith, same))))
-    (c.requires.held 2 2 (omega arith) (omega arith))
+returns-clause-line g c = IsSome-kept c.in_ok-stake.ensures.ok 2 2 third-kept (c.requires.held 2 2 (omega arith) (omega arith))
 
 pub returns-clause-row : goal.returns-clause-row
 returns-clause-row g c = λ l line. row-kept c.in_ok-stake.ensures.ok l (c.requires.row l line)

@@ -2,6 +2,7 @@
 use Rattle.std.proofs.Common.{◌≡◌, ◌+◌, ◌-◌, ◌∷◌, [], ◌++◌, ℕ, ap, ◌∙◌, arith, refl, subst, inl, inr, is_ok}
 use Rattle.sv_dev.specs.Causes.{Rose, counted}
 use Rattle.sv_store.specs.Held.{Both}
+use Rattle.sv_super.proofs.FirstLine.{first-joined, names-home}
 use Rattle.sv_super.proofs.InodeLines.{inodes-joined}
 use Rattle.sv_super.proofs.Sound.{IsReady, Joined, held-more, joined-linked, joined-same, kept-aside_more, kept-few, kept-linked, kept-spelled, pushed, ready}
 use Rattle.sv_super.proofs.blocks.SuperCore.free.Goals as goal
@@ -10,7 +11,7 @@ pub link-requires-clause-block : goal.link-requires-clause-block
 link-requires-clause-block g c κs within = held-more (g.S.Stake.held c.self.inside.stake) c.merge.ensures.origin c.merge.ensures.held is.block
   where
     is : IsReady (g.S.Stake.origin c.self.inside.stake) (g.S.Stake.held c.self.inside.stake) (g.S.Stake.held c.args.part) c.args.b
-    is = ready g.S.Stake.origin g.S.Stake.held c.args.self.now.stake c.self.inside.stake c.args.part c.merge.new.self c.geometry-sizes.result c.args.b (ap (λ v. v.stake) c.self.view_is) c.requires.in_data c.requires.block c.requires.apart c.merge.ensures.held c.merge.ensures.origin c.geometry-sizes.ensures.value c.geometry-sizes.ensures.sizes c.geometry-sizes.ensures.range
+    is = ready g.S.Stake.origin g.S.Stake.held c.args.self.now.stake c.self.inside.stake c.args.part c.merge.new.self c.geometry-sizes.result c.args.b (ap (λ v. v.stake) c.self.view_is) c.requires.in_data c.requires.block c.requires.only c.requires.apart c.merge.ensures.held c.merge.ensures.origin c.geometry-sizes.ensures.value c.geometry-sizes.ensures.sizes c.geometry-sizes.ensures.range
 
 pub link-requires-clause-spelled : goal.link-requires-clause-spelled
 link-requires-clause-spelled g c κs within = let spelled = kept-spelled c.self.invariant.blocks in record { some = spelled.some; blocks = spelled.blocks }
@@ -19,16 +20,18 @@ pub overflow_add-self : goal.overflow_add-self
 overflow_add-self g c = let few = kept-few is.sizes c.self.invariant.blocks in omega (arith, few, is.sizes.most_blocks)
   where
     is : IsReady (g.S.Stake.origin c.self.inside.stake) (g.S.Stake.held c.self.inside.stake) (g.S.Stake.held c.args.part) c.args.b
-    is = ready g.S.Stake.origin g.S.Stake.held c.args.self.now.stake c.self.inside.stake c.args.part c.merge.new.self c.geometry-sizes.result c.args.b (ap (λ v. v.stake) c.self.view_is) c.requires.in_data c.requires.block c.requires.apart c.merge.ensures.held c.merge.ensures.origin c.geometry-sizes.ensures.value c.geometry-sizes.ensures.sizes c.geometry-sizes.ensures.range
+    is = ready g.S.Stake.origin g.S.Stake.held c.args.self.now.stake c.self.inside.stake c.args.part c.merge.new.self c.geometry-sizes.result c.args.b (ap (λ v. v.stake) c.self.view_is) c.requires.in_data c.requires.block c.requires.only c.requires.apart c.merge.ensures.held c.merge.ensures.origin c.geometry-sizes.ensures.value c.geometry-sizes.ensures.sizes c.geometry-sizes.ensures.range
 
 pub invariant_of-self : goal.invariant_of-self
 invariant_of-self g c = record {
-  blocks = (kept-linked {spare' = c.self.inside.spare - 1} c.args.b is.sizes is.range c.self.invariant.blocks is.in_data is.block is.away joined (g.S.Stake.held c.merge.new.self) c.in-Ok.ensures.ok refl (omega arith) (c.link.ensures.origin ∙ c.merge.ensures.origin) c.link.ensures.lends).0;
+  blocks = (kept-linked {spare' = c.self.inside.spare - 1} c.args.b is.sizes is.range c.self.invariant.blocks is.in_data is.block is.only is.away joined (g.S.Stake.held c.merge.new.self) c.in-Ok.ensures.ok refl (omega arith) (c.link.ensures.origin ∙ c.merge.ensures.origin) c.link.ensures.lends).0;
   inodes = inodes-joined c.args.b is.sizes c.self.invariant.inodes (c.link.ensures.origin ∙ c.merge.ensures.origin) joined is.in_data;
+  first = first-joined c.args.b is.sizes c.self.invariant.first (c.link.ensures.origin ∙ c.merge.ensures.origin) joined is.in_data;
+  names = names-home (c.link.ensures.origin ∙ c.merge.ensures.origin) c.self.invariant.names;
 }
   where
     is : IsReady (g.S.Stake.origin c.self.inside.stake) (g.S.Stake.held c.self.inside.stake) (g.S.Stake.held c.args.part) c.args.b
-    is = ready g.S.Stake.origin g.S.Stake.held c.args.self.now.stake c.self.inside.stake c.args.part c.merge.new.self c.geometry-sizes.result c.args.b (ap (λ v. v.stake) c.self.view_is) c.requires.in_data c.requires.block c.requires.apart c.merge.ensures.held c.merge.ensures.origin c.geometry-sizes.ensures.value c.geometry-sizes.ensures.sizes c.geometry-sizes.ensures.range
+    is = ready g.S.Stake.origin g.S.Stake.held c.args.self.now.stake c.self.inside.stake c.args.part c.merge.new.self c.geometry-sizes.result c.args.b (ap (λ v. v.stake) c.self.view_is) c.requires.in_data c.requires.block c.requires.only c.requires.apart c.merge.ensures.held c.merge.ensures.origin c.geometry-sizes.ensures.value c.geometry-sizes.ensures.sizes c.geometry-sizes.ensures.range
 
     joined : Joined (g.S.Stake.held c.self.inside.stake) (g.S.Stake.held c.args.part) (g.S.Stake.held c.link.new.s) c.args.b
     joined = joined-linked _ _ _ c.args.b c.merge.ensures.held c.in-Ok.ensures.ok
@@ -37,10 +40,12 @@ pub invariant_of-self-in-Err : goal.invariant_of-self-in-Err
 invariant_of-self-in-Err g c = record {
   blocks = (kept-aside_more c.args.b is c.self.invariant.blocks (joined-same _ _ _ c.args.b c.merge.ensures.held c.in-Err.ensures.err) (ap (λ q. q.numbers.items) c.in-Err.ensures.list) added fewer c.push-pushed.ensures.capacity (c.link.ensures.origin ∙ c.merge.ensures.origin) c.link.ensures.lends).0;
   inodes = inodes-joined c.args.b is.sizes c.self.invariant.inodes (c.link.ensures.origin ∙ c.merge.ensures.origin) (joined-same (g.S.Stake.held c.self.inside.stake) (g.S.Stake.held c.args.part) (g.S.Stake.held c.link.new.s) c.args.b c.merge.ensures.held c.in-Err.ensures.err) is.in_data;
+  first = first-joined c.args.b is.sizes c.self.invariant.first (c.link.ensures.origin ∙ c.merge.ensures.origin) (joined-same (g.S.Stake.held c.self.inside.stake) (g.S.Stake.held c.args.part) (g.S.Stake.held c.link.new.s) c.args.b c.merge.ensures.held c.in-Err.ensures.err) is.in_data;
+  names = names-home (c.link.ensures.origin ∙ c.merge.ensures.origin) c.self.invariant.names;
 }
   where
     is : IsReady (g.S.Stake.origin c.self.inside.stake) (g.S.Stake.held c.self.inside.stake) (g.S.Stake.held c.args.part) c.args.b
-    is = ready g.S.Stake.origin g.S.Stake.held c.args.self.now.stake c.self.inside.stake c.args.part c.merge.new.self c.geometry-sizes.result c.args.b (ap (λ v. v.stake) c.self.view_is) c.requires.in_data c.requires.block c.requires.apart c.merge.ensures.held c.merge.ensures.origin c.geometry-sizes.ensures.value c.geometry-sizes.ensures.sizes c.geometry-sizes.ensures.range
+    is = ready g.S.Stake.origin g.S.Stake.held c.args.self.now.stake c.self.inside.stake c.args.part c.merge.new.self c.geometry-sizes.result c.args.b (ap (λ v. v.stake) c.self.view_is) c.requires.in_data c.requires.block c.requires.only c.requires.apart c.merge.ensures.held c.merge.ensures.origin c.geometry-sizes.ensures.value c.geometry-sizes.ensures.sizes c.geometry-sizes.ensures.range
 
     fewer : c.self.inside.spare - 1 + 1 ≡ c.self.inside.spare
     fewer = omega (arith, c.requires.spare, ap (λ v. v.spare) c.self.view_is)
@@ -53,13 +58,13 @@ invariant_of-self-in-Err g c = record {
 pub returns-in-Ok-clause-block : goal.returns-in-Ok-clause-block
 returns-in-Ok-clause-block g c = inl (record {
   chain =
-      (kept-linked {spare' = c.self.inside.spare - 1} c.args.b is.sizes is.range c.self.invariant.blocks is.in_data is.block is.away joined (g.S.Stake.held c.merge.new.self) c.in-Ok.ensures.ok refl (omega arith) (c.link.ensures.origin ∙ c.merge.ensures.origin) c.link.ensures.lends).1
+      (kept-linked {spare' = c.self.inside.spare - 1} c.args.b is.sizes is.range c.self.invariant.blocks is.in_data is.block is.only is.away joined (g.S.Stake.held c.merge.new.self) c.in-Ok.ensures.ok refl (omega arith) (c.link.ensures.origin ∙ c.merge.ensures.origin) c.link.ensures.lends).1
       ∙ ap (λ v. c.args.b ∷ v.chain) c.self.view_is;
   aside = ap (λ v. v.aside) c.self.view_is;
 })
   where
     is : IsReady (g.S.Stake.origin c.self.inside.stake) (g.S.Stake.held c.self.inside.stake) (g.S.Stake.held c.args.part) c.args.b
-    is = ready g.S.Stake.origin g.S.Stake.held c.args.self.now.stake c.self.inside.stake c.args.part c.merge.new.self c.geometry-sizes.result c.args.b (ap (λ v. v.stake) c.self.view_is) c.requires.in_data c.requires.block c.requires.apart c.merge.ensures.held c.merge.ensures.origin c.geometry-sizes.ensures.value c.geometry-sizes.ensures.sizes c.geometry-sizes.ensures.range
+    is = ready g.S.Stake.origin g.S.Stake.held c.args.self.now.stake c.self.inside.stake c.args.part c.merge.new.self c.geometry-sizes.result c.args.b (ap (λ v. v.stake) c.self.view_is) c.requires.in_data c.requires.block c.requires.only c.requires.apart c.merge.ensures.held c.merge.ensures.origin c.geometry-sizes.ensures.value c.geometry-sizes.ensures.sizes c.geometry-sizes.ensures.range
 
     joined : Joined (g.S.Stake.held c.self.inside.stake) (g.S.Stake.held c.args.part) (g.S.Stake.held c.link.new.s) c.args.b
     joined = joined-linked _ _ _ c.args.b c.merge.ensures.held c.in-Ok.ensures.ok
@@ -80,7 +85,7 @@ returns-in-Err-clause-block g c = inr (record {
 })
   where
     is : IsReady (g.S.Stake.origin c.self.inside.stake) (g.S.Stake.held c.self.inside.stake) (g.S.Stake.held c.args.part) c.args.b
-    is = ready g.S.Stake.origin g.S.Stake.held c.args.self.now.stake c.self.inside.stake c.args.part c.merge.new.self c.geometry-sizes.result c.args.b (ap (λ v. v.stake) c.self.view_is) c.requires.in_data c.requires.block c.requires.apart c.merge.ensures.held c.merge.ensures.origin c.geometry-sizes.ensures.value c.geometry-sizes.ensures.sizes c.geometry-sizes.ensures.range
+    is = ready g.S.Stake.origin g.S.Stake.held c.args.self.now.stake c.self.inside.stake c.args.part c.merge.new.self c.geometry-sizes.result c.args.b (ap (λ v. v.stake) c.self.view_is) c.requires.in_data c.requires.block c.requires.only c.requires.apart c.merge.ensures.held c.merge.ensures.origin c.geometry-sizes.ensures.value c.geometry-sizes.ensures.sizes c.geometry-sizes.ensures.range
 
     fewer : c.self.inside.spare - 1 + 1 ≡ c.self.inside.spare
     fewer = omega (arith, c.requires.spare, ap (λ v. v.spare) c.self.view_is)

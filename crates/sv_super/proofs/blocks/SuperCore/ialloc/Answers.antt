@@ -5,6 +5,7 @@ use Rattle.sv_form.specs.declared.place.Place.{Place}
 use Rattle.sv_super.specs.Calls.{TakesInode}
 use Rattle.sv_super.specs.Core.{Core, line_alone, line_less}
 use Rattle.sv_super.proofs.Caches.{taken-used}
+use Rattle.sv_super.proofs.FirstLine.{first-line_less, names-home}
 use Rattle.sv_super.proofs.FreeNumbers.{free-range}
 use Rattle.sv_super.proofs.InodeLines.{at-home, core-same, inodes-line_less, kept-line_less, line-alone-at}
 use Rattle.sv_super.proofs.blocks.SuperCore.ialloc.Goals as goal
@@ -24,6 +25,8 @@ pub invariant_of-self-2 : goal.invariant_of-self-2
 invariant_of-self-2 g c = record {
   blocks = (kept-line_less c.in-Some.n sizes c.self.invariant.blocks c.self.invariant.inodes c.in-Some.ensures.free c.cut_line.ensures.origin c.cut_line.ensures.lends mine).0;
   inodes = inodes-line_less c.in-Some.n sizes c.self.invariant.inodes c.in-Some.ensures.free mine (taken-used c.self.inside.inodes c.in-Some.n c.take.ensures refl c.in-Some.ensures.some) c.cut_line.ensures.origin;
+  first = first-line_less c.in-Some.n sizes c.self.invariant.first (let range = free-range c.self.inside.inodes.used c.in-Some.n c.in-Some.ensures.free in omega (arith, range.0)) mine c.cut_line.ensures.origin;
+  names = names-home c.cut_line.ensures.origin c.self.invariant.names;
 }
   where
     sizes : IsGeometry (g.S.Stake.origin c.self.inside.stake).sizes

@@ -4,6 +4,7 @@ use Rattle.sv_form.specs.Geometry.{IsGeometry}
 use Rattle.sv_super.specs.Core.{Core, free_times}
 use Rattle.sv_super.specs.Written.{Rewrites}
 use Rattle.sv_super.proofs.Counts.{at-any}
+use Rattle.sv_super.proofs.FirstLine.{first-linked, names-home}
 use Rattle.sv_super.proofs.Flushes.{inodes-linked, moved, same-order}
 use Rattle.sv_super.proofs.InodeLines.{at-home}
 use Rattle.sv_super.proofs.Sound.{kept-few, kept-last, kept-spelled}
@@ -39,6 +40,8 @@ invariant_of-self-2 g c =
     record {
       blocks = moves.kept;
       inodes = inodes-linked c.index-block.result.now sizes c.self.invariant.inodes c.link.ensures.origin c.in_ok-link.ensures.ok moves.in_data;
+      first = first-linked c.index-block.result.now sizes c.self.invariant.first c.link.ensures.origin c.in_ok-link.ensures.ok moves.in_data;
+      names = names-home c.link.ensures.origin c.self.invariant.names;
     })
   where
     last : c.len-last.result - 1 + 1 ≡ length c.self.inside.aside.items

@@ -3,6 +3,7 @@ use Rattle.std.proofs.Common.{◌≡◌, ◌+◌, ◌-◌, ◌<◌, length, ap, 
 use Rattle.sv_form.specs.Geometry.{IsGeometry}
 use Rattle.sv_form.specs.declared.geometry.Geometry.{Geometry}
 use Rattle.sv_super.proofs.Counts.{at-any}
+use Rattle.sv_super.proofs.FirstLine.{first-less, names-home}
 use Rattle.sv_super.proofs.InodeLines.{inodes-less}
 use Rattle.sv_super.proofs.Sound.{data-same, holds-same, kept-aside, kept-last}
 use Rattle.sv_super.proofs.blocks.SuperCore.take_aside.Goals as goal
@@ -23,6 +24,8 @@ pub invariant_of-self-2 : goal.invariant_of-self-2
 invariant_of-self-2 g c = record {
   blocks = (kept-aside (c.len-last.result - 1) c.index-block.result.now sizes c.self.invariant.blocks last (at-any c.self.inside.aside.items (c.len-last.result - 1) c.index-block.result.now (omega (arith, last)) c.index-block.ensures) c.truncate.ensures.items c.cut_block.ensures.origin c.in_ok-part.ensures.mine c.cut_block.ensures.lends c.truncate.ensures.capacity).0;
   inodes = inodes-less c.index-block.result.now sizes c.self.invariant.inodes c.cut_block.ensures.origin c.in_ok-part.ensures.mine (kept-last (c.len-last.result - 1) c.index-block.result.now c.self.invariant.blocks (omega (arith, last)) (at-any c.self.inside.aside.items (c.len-last.result - 1) c.index-block.result.now (omega (arith, last)) c.index-block.ensures)).1;
+  first = first-less c.index-block.result.now sizes c.self.invariant.first c.cut_block.ensures.origin c.in_ok-part.ensures.mine (kept-last (c.len-last.result - 1) c.index-block.result.now c.self.invariant.blocks (omega (arith, last)) (at-any c.self.inside.aside.items (c.len-last.result - 1) c.index-block.result.now (omega (arith, last)) c.index-block.ensures)).1;
+  names = names-home c.cut_block.ensures.origin c.self.invariant.names;
 }
   where
     sizes : IsGeometry (g.S.Stake.origin c.self.inside.stake).sizes

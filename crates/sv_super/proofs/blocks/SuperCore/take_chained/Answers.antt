@@ -4,6 +4,7 @@ use Rattle.sv_form.specs.Geometry.{IsGeometry}
 use Rattle.sv_form.specs.declared.geometry.Geometry.{Geometry}
 use Rattle.sv_super.specs.Core.{less}
 use Rattle.sv_super.proofs.Chains.{length-taken}
+use Rattle.sv_super.proofs.FirstLine.{first-less, names-home}
 use Rattle.sv_super.proofs.InodeLines.{inodes-less}
 use Rattle.sv_super.proofs.Sound.{data-same, holds-same, kept-chained, kept-link, kept-next}
 use Rattle.sv_super.proofs.blocks.SuperCore.take_chained.Goals as goal
@@ -46,6 +47,8 @@ pub invariant_of-self-2 : goal.invariant_of-self-2
 invariant_of-self-2 g c = record {
   blocks = (kept-chained c.in_ok-block.block sizes c.self.invariant.blocks some c.in_ok-block.ensures.block c.in_ok-block.ensures.list (c.cut_block.ensures.origin ∙ c.next_of.ensures.origin) (c.in_ok-part.ensures.mine ∙ ap (less c.in_ok-block.block) c.next_of.ensures.held) c.cut_block.ensures.lends).0;
   inodes = inodes-less c.in_ok-block.block sizes c.self.invariant.inodes (c.cut_block.ensures.origin ∙ c.next_of.ensures.origin) (c.in_ok-part.ensures.mine ∙ ap (less c.in_ok-block.block) c.next_of.ensures.held) (data-same {o = g.S.Stake.origin c.self.inside.stake} refl c.in_ok-block.ensures.block (kept-next c.self.inside.chained c.self.invariant.blocks (omega (arith, some))).2);
+  first = first-less c.in_ok-block.block sizes c.self.invariant.first (c.cut_block.ensures.origin ∙ c.next_of.ensures.origin) (c.in_ok-part.ensures.mine ∙ ap (less c.in_ok-block.block) c.next_of.ensures.held) (data-same {o = g.S.Stake.origin c.self.inside.stake} refl c.in_ok-block.ensures.block (kept-next c.self.inside.chained c.self.invariant.blocks (omega (arith, some))).2);
+  names = names-home (c.cut_block.ensures.origin ∙ c.next_of.ensures.origin) c.self.invariant.names;
 }
   where
     sizes : IsGeometry (g.S.Stake.origin c.self.inside.stake).sizes
