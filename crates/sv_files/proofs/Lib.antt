@@ -27,8 +27,11 @@ mod RangeTests
 mod RestedNodes
 mod SoundAtRest
 mod SpotPaths
+mod TreeCodes
+mod TreeNeeds
 mod TreeRows
 mod TreeSpots
+mod TreeUsed
 mod Walked
 mod WalkedDirectories
 mod WalkedNamings

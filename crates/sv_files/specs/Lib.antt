@@ -5,3 +5,4 @@ pub mod ConverseNames
 pub mod ConversePages
 pub mod ConverseSound
 pub mod FromImage
+pub mod NodeBlocks

@@ -9,11 +9,13 @@
 //! - `nodes_have_inodes`, `nodes_are_walked_once`, `nodes_are_paged_well` and `nodes_are_tree` give the conditions 4 to 9, and the
 //!   tree, from the lines that stand for the nodes.
 //! - `nodes_are_named` gives the conditions 13 to 16 from the nodes of a whole file system at rest.
+//! - `tree_is_used` and `need_is_added` give how many blocks an inode has, and how many a write takes, in terms of the node alone.
 //! - `sound_is_at_rest` says that each sound image meets what this asks, and `purged_is_at_rest` when a file system is at rest.
 #![tactic(auto)]
 
 mod converse;
 mod from_image;
+mod node_blocks;
 
 pub use converse::{
     closed_is_sound, flushed_is_cached, flushed_is_chained, flushed_is_sized, nodes_are_named,
@@ -21,3 +23,4 @@ pub use converse::{
     purged_is_at_rest, sound_is_at_rest,
 };
 pub use from_image::{free_blocks_mount, free_inodes_mount, inodes_stand_for_nodes};
+pub use node_blocks::{need_is_added, tree_is_used};
