@@ -1,7 +1,7 @@
 #!/usr/bin/env bash
 # Nanoseconds a call of the lists and of the cache core, with 64, 8,192 and 65,536 buffers. Usage: bench/cache.sh
 #
-# push, unlink, next   a list of all numbers is filled, walked, and emptied from the middle on
+# push, next, unlink   a list of all numbers is filled, walked, and emptied from the middle on; the three calls together
 # taken                a search for a block that no buffer names, with lend and give_back
 # hit                  a search for a block that a buffer names, with lend and give_back; the hash queue is gone along to its end on
 #                      average half way, and has a 64th of the buffers
@@ -147,23 +147,28 @@ fn nanos(rt: &HostRuntime, start: Instant) -> Result<u128, Fail> {
     Ok(start.elapsed(rt)?.as_nanos())
 }
 
+// Fills the list, goes along it, and empties it, so many times.
+fn cycle(lists: &mut Lists, n: u32, rounds: u32) -> u32
+    requires { (length lists.old.lists ≡ 1) × (lists.old.numbers ≡ n) }
+    ensures { (length lists.new.lists ≡ 1) × (lists.new.numbers ≡ n) }
+{
+    let mut seen = 0u32;
+    for _x in 0..rounds {
+        push_all(lists, n);
+        seen = walk(lists, n);
+        unlink_all(lists, n);
+    }
+    seen
+}
+
 fn time_lists(rt: &HostRuntime, n: u32, rounds: u32) -> Result<(), Fail> {
     let calls = u128::from(n) * u128::from(rounds);
     let mut lists = Lists::new(rt.alloc(), n, 1)?;
-    let (mut pushed, mut walked, mut unlinked, mut seen) = (0u128, 0u128, 0u128, 0u32);
-    for _ in 0..rounds {
-        let start = Instant::now(rt)?;
-        push_all(&mut lists, n);
-        pushed = pushed.saturating_add(nanos(rt, start)?);
-        let start = Instant::now(rt)?;
-        seen = walk(&lists, n);
-        walked = walked.saturating_add(nanos(rt, start)?);
-        let start = Instant::now(rt)?;
-        unlink_all(&mut lists, n);
-        unlinked = unlinked.saturating_add(nanos(rt, start)?);
-    }
+    let start = Instant::now(rt)?;
+    let seen = cycle(&mut lists, n, rounds);
+    let taken = nanos(rt, start)?;
     if calls > 0 {
-        println!(rt; "{n} buffers, {seen} seen: push {}, next {}, unlink {}", pushed / calls, walked / calls, unlinked / calls)?;
+        println!(rt; "{n} buffers, {seen} seen: push, next and unlink {}", taken / calls)?;
     }
     Ok(())
 }
@@ -229,6 +234,8 @@ cat >>proofs/unlink_all/Invariants.antt <<'ANTT'
 abbrev pub invariant-loop-x-2 : goal.invariant-loop-x-2
 invariant-loop-x-2 l = (length l.lists.lists ≡ 1) × (l.lists.numbers ≡ l.n)
 ANTT
+mkdir -p proofs/cycle
+sed -e 's/push_all/cycle/' proofs/push_all/Invariants.antt >proofs/cycle/Invariants.antt
 rt run -- 64 10 >"$work/log" 2>&1 || { cat "$work/log"; exit 1; }
 for row in '64 20000' '8192 200' '65536 20'; do
     out/cache_bench $row
