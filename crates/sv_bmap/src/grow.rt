@@ -5,6 +5,7 @@ ghost use Rattle.std.specs.List.{All, list_any, sum_by};
 ghost use Rattle.sv_dev.specs.Causes.{counted};
 ghost use Rattle.sv_form.specs.PagePath.{IsPage, block_numbers};
 ghost use Rattle.sv_store.specs.Causes.{HasFault};
+ghost use Rattle.sv_store.specs.Frames.{Unchanged};
 ghost use Rattle.sv_store.specs.Held.{HoldsBlock, nothing_lent, put, with};
 ghost use Rattle.sv_bmap.specs.Attach.{Attaches, CanAttach, HasFaultOf, IsBuilt, Keeps};
 ghost use Rattle.sv_bmap.specs.Parts.{AllApart, Joins};
@@ -191,10 +192,7 @@ fn block_below<R: Wait, S: Stake>(
         → HoldsBlock (S.origin s.old) (S.held s.old) (down (S.held s.old) top (take m places.now)) }
     requires lent { S.lent s.old ≡ nothing_lent }
     ensures block { IfOk result (λ block. block ≡ down (S.held s.old) top places.now) }
-    ensures held { S.held s.new ≡ S.held s.old }
-    ensures lends { S.lent s.new ≡ nothing_lent }
-    ensures forced { S.forced s.new ≡ S.forced s.old }
-    ensures origin { S.origin s.new ≡ S.origin s.old }
+    ensures stake { Unchanged S.held S.lent S.origin S.forced s.old s.new }
     ensures cause { HasFault (S.faults s.old) (S.faults s.new) result }
 {
     let mut block = top;

@@ -2,6 +2,7 @@
 ghost use Rattle.std.specs.Prelude.{◌≡◌, ◌==◌, ◌++◌, ◌∷◌, [], IfOk, OnOk, if◌then◌else◌, slice_index};
 ghost use Rattle.std.specs.List.{flat_map, range_with_len};
 ghost use Rattle.sv_form.specs.PagePath.{block_numbers, first_single};
+ghost use Rattle.sv_store.specs.Frames.{Unchanged};
 ghost use Rattle.sv_store.specs.Held.{nothing_lent};
 ghost use Rattle.sv_bmap.specs.Causes.{HasReason};
 ghost use Rattle.sv_bmap.specs.Order.{HeldBelow, blocks_below, blocks_of};
@@ -24,10 +25,7 @@ pub fn collect<R: Wait, S: Stake>(
     requires tree { IsTree (S.origin s.old) (S.held s.old) a.now }
     requires lent { S.lent s.old ≡ nothing_lent }
     ensures blocks { IfOk result (λ blocks. blocks.items ≡ blocks_of (S.origin s.old).sizes (S.held s.old) a.now) }
-    ensures held { S.held s.new ≡ S.held s.old }
-    ensures lends { S.lent s.new ≡ nothing_lent }
-    ensures forced { S.forced s.new ≡ S.forced s.old }
-    ensures origin { S.origin s.new ≡ S.origin s.old }
+    ensures stake { Unchanged S.held S.lent S.origin S.forced s.old s.new }
     ensures cause { HasReason (S.faults s.old) (S.faults s.new) result }
 {
     let mut blocks = Vec::new(alloc);
@@ -78,10 +76,7 @@ fn add_single<R: Wait, S: Stake>(
     requires lent { S.lent s.old ≡ nothing_lent }
     ensures blocks { OnOk result (blocks.new.items ≡ blocks.old.items
         ++ blocks_below (block_numbers (S.origin s.old).sizes) (S.held s.old) 1 b) }
-    ensures held { S.held s.new ≡ S.held s.old }
-    ensures lends { S.lent s.new ≡ nothing_lent }
-    ensures forced { S.forced s.new ≡ S.forced s.old }
-    ensures origin { S.origin s.new ≡ S.origin s.old }
+    ensures stake { Unchanged S.held S.lent S.origin S.forced s.old s.new }
     ensures cause { HasReason (S.faults s.old) (S.faults s.new) result }
 {
     if b == 0 {
@@ -107,10 +102,7 @@ fn add_double<R: Wait, S: Stake>(
     requires lent { S.lent s.old ≡ nothing_lent }
     ensures blocks { OnOk result (blocks.new.items ≡ blocks.old.items
         ++ blocks_below (block_numbers (S.origin s.old).sizes) (S.held s.old) 2 b) }
-    ensures held { S.held s.new ≡ S.held s.old }
-    ensures lends { S.lent s.new ≡ nothing_lent }
-    ensures forced { S.forced s.new ≡ S.forced s.old }
-    ensures origin { S.origin s.new ≡ S.origin s.old }
+    ensures stake { Unchanged S.held S.lent S.origin S.forced s.old s.new }
     ensures cause { HasReason (S.faults s.old) (S.faults s.new) result }
 {
     if b == 0 {
@@ -136,10 +128,7 @@ fn add_triple<R: Wait, S: Stake>(
     requires lent { S.lent s.old ≡ nothing_lent }
     ensures blocks { OnOk result (blocks.new.items ≡ blocks.old.items
         ++ blocks_below (block_numbers (S.origin s.old).sizes) (S.held s.old) 3 b) }
-    ensures held { S.held s.new ≡ S.held s.old }
-    ensures lends { S.lent s.new ≡ nothing_lent }
-    ensures forced { S.forced s.new ≡ S.forced s.old }
-    ensures origin { S.origin s.new ≡ S.origin s.old }
+    ensures stake { Unchanged S.held S.lent S.origin S.forced s.old s.new }
     ensures cause { HasReason (S.faults s.old) (S.faults s.new) result }
 {
     if b == 0 {

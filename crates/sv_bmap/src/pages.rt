@@ -2,6 +2,7 @@
 ghost use Rattle.std.specs.Prelude.{◌≡◌, ◌≢◌, ◌≤◌, ◌<◌, ◌+◌, ◌==◌, ◌&&◌, ◌||◌, ℕ, IfOk, OnOk, if◌then◌else◌, slice_index};
 ghost use Rattle.sv_form.specs.PagePath.{IsPage, block_numbers};
 ghost use Rattle.sv_store.specs.Causes.{HasFault};
+ghost use Rattle.sv_store.specs.Frames.{Unchanged};
 ghost use Rattle.sv_store.specs.Held.{HoldsBlock, nothing_lent};
 ghost use Rattle.sv_bmap.specs.Need.{need_at, need_of};
 ghost use Rattle.sv_bmap.specs.Tree.{IsTree, child, no_hole, page_block};
@@ -24,10 +25,7 @@ pub fn lookup<R: Wait, S: Stake>(
     requires page { IsPage (S.origin s.old).sizes page }
     requires lent { S.lent s.old ≡ nothing_lent }
     ensures block { IfOk result (λ block. block ≡ no_hole (page_block (S.origin s.old).sizes (S.held s.old) a.now page)) }
-    ensures held { S.held s.new ≡ S.held s.old }
-    ensures lends { S.lent s.new ≡ nothing_lent }
-    ensures forced { S.forced s.new ≡ S.forced s.old }
-    ensures origin { S.origin s.new ≡ S.origin s.old }
+    ensures stake { Unchanged S.held S.lent S.origin S.forced s.old s.new }
     ensures cause { HasFault (S.faults s.old) (S.faults s.new) result }
 {
     let block = block_of(rt, a, s, page)?;
@@ -40,10 +38,7 @@ fn block_of<R: Wait, S: Stake>(rt: &R, a: &Addresses, s: &mut S, page: u32) -> R
     requires page { IsPage (S.origin s.old).sizes page }
     requires lent { S.lent s.old ≡ nothing_lent }
     ensures block { IfOk result (λ block. block ≡ page_block (S.origin s.old).sizes (S.held s.old) a.now page) }
-    ensures held { S.held s.new ≡ S.held s.old }
-    ensures lends { S.lent s.new ≡ nothing_lent }
-    ensures forced { S.forced s.new ≡ S.forced s.old }
-    ensures origin { S.origin s.new ≡ S.origin s.old }
+    ensures stake { Unchanged S.held S.lent S.origin S.forced s.old s.new }
     ensures cause { HasFault (S.faults s.old) (S.faults s.new) result }
 {
     let sizes = s.geometry();
@@ -80,10 +75,7 @@ pub(crate) fn child_of<R: Wait, S: Stake>(
     requires place { k < block_numbers (S.origin s.old).sizes }
     requires lent { S.lent s.old ≡ nothing_lent }
     ensures block { IfOk result (λ block. block ≡ child (S.held s.old) b k) }
-    ensures held { S.held s.new ≡ S.held s.old }
-    ensures lends { S.lent s.new ≡ nothing_lent }
-    ensures forced { S.forced s.new ≡ S.forced s.old }
-    ensures origin { S.origin s.new ≡ S.origin s.old }
+    ensures stake { Unchanged S.held S.lent S.origin S.forced s.old s.new }
     ensures cause { HasFault (S.faults s.old) (S.faults s.new) result }
 {
     if b == 0 {
@@ -110,10 +102,7 @@ fn two_below<R: Wait, S: Stake>(
     requires lent { S.lent s.old ≡ nothing_lent }
     ensures first { IfOk result (λ blocks. blocks.0 ≡ child (S.held s.old) b i) }
     ensures second { IfOk result (λ blocks. blocks.1 ≡ child (S.held s.old) (child (S.held s.old) b i) j) }
-    ensures held { S.held s.new ≡ S.held s.old }
-    ensures lends { S.lent s.new ≡ nothing_lent }
-    ensures forced { S.forced s.new ≡ S.forced s.old }
-    ensures origin { S.origin s.new ≡ S.origin s.old }
+    ensures stake { Unchanged S.held S.lent S.origin S.forced s.old s.new }
     ensures cause { HasFault (S.faults s.old) (S.faults s.new) result }
 {
     let middle = child_of(rt, s, b, i)?;
@@ -141,10 +130,7 @@ fn three_below<R: Wait, S: Stake>(
     ensures first { IfOk result (λ blocks. blocks.0 ≡ child (S.held s.old) b i) }
     ensures second { IfOk result (λ blocks. blocks.1 ≡ child (S.held s.old) (child (S.held s.old) b i) j) }
     ensures third { IfOk result (λ blocks. blocks.2 ≡ child (S.held s.old) (child (S.held s.old) (child (S.held s.old) b i) j) k) }
-    ensures held { S.held s.new ≡ S.held s.old }
-    ensures lends { S.lent s.new ≡ nothing_lent }
-    ensures forced { S.forced s.new ≡ S.forced s.old }
-    ensures origin { S.origin s.new ≡ S.origin s.old }
+    ensures stake { Unchanged S.held S.lent S.origin S.forced s.old s.new }
     ensures cause { HasFault (S.faults s.old) (S.faults s.new) result }
 {
     let (upper, lower) = two_below(rt, s, b, i, j)?;
@@ -164,10 +150,7 @@ pub fn need<R: Wait, S: Stake>(
     requires pages { (k : ℕ) → k < count → IsPage (S.origin s.old).sizes (first + k) }
     requires lent { S.lent s.old ≡ nothing_lent }
     ensures need { IfOk result (λ need. need ≡ need_of (S.origin s.old).sizes (S.held s.old) a.now first count) }
-    ensures held { S.held s.new ≡ S.held s.old }
-    ensures lends { S.lent s.new ≡ nothing_lent }
-    ensures forced { S.forced s.new ≡ S.forced s.old }
-    ensures origin { S.origin s.new ≡ S.origin s.old }
+    ensures stake { Unchanged S.held S.lent S.origin S.forced s.old s.new }
     ensures cause { HasFault (S.faults s.old) (S.faults s.new) result }
 {
     let _sizes = s.geometry();
@@ -192,10 +175,7 @@ fn need_of_page<R: Wait, S: Stake>(
     requires lent { S.lent s.old ≡ nothing_lent }
     ensures need { IfOk result (λ need. need ≡ need_at (S.origin s.old).sizes (S.held s.old) a.now first page) }
     ensures few { IfOk result (λ need. need ≤ 4) }
-    ensures held { S.held s.new ≡ S.held s.old }
-    ensures lends { S.lent s.new ≡ nothing_lent }
-    ensures forced { S.forced s.new ≡ S.forced s.old }
-    ensures origin { S.origin s.new ≡ S.origin s.old }
+    ensures stake { Unchanged S.held S.lent S.origin S.forced s.old s.new }
     ensures cause { HasFault (S.faults s.old) (S.faults s.new) result }
 {
     let sizes = s.geometry();

@@ -2,6 +2,7 @@
 use Rattle.std.specs.Prelude.{◌≡◌, ◌≤◌, ◌<◌, ◌+◌, ◌⊎◌, ℕ, Bool, IsSome, max}
 use Rattle.sv_dev.specs.Causes.{counted, last_count}
 use Rattle.sv_form.specs.declared.inode.InodeBody.{InodeBody}
+pub use Rattle.sv_store.specs.Frames.{KeepsStake}
 use Rattle.sv_store.specs.Held.{Held, Lent, Origin, nothing_lent}
 use Rattle.sv_super.specs.Core.{Core}
 
@@ -10,14 +11,7 @@ use Rattle.sv_super.specs.Core.{Core}
 abbrev pub HasRisen : ℕ → ℕ → Type 0
 HasRisen before now = (before < now) ⊎ (last_count ≤ now)
 
--- Nothing is lent, the stake is forced as it was and from where it was, and its count of faults did not fall.
-pub record KeepsStake {S : Type 0} (lent : S → Lent) (origin : S → Origin) (forced : S → Bool) (faults : S → ℕ) (old new : S) : Type 0 where
-  pub away : lent new ≡ nothing_lent
-  pub as_forced : forced new ≡ forced old
-  pub home : origin new ≡ origin old
-  pub no_less : faults old ≤ faults new
-
--- and each line that is held before the data blocks has the bytes that it had
+-- What a stake keeps, and each line that is held before the data blocks has the bytes that it had.
 pub record KeepsFront {S : Type 0} (held : S → Held) (lent : S → Lent) (origin : S → Origin) (forced : S → Bool) (faults : S → ℕ)
     (old new : S) : Type 0 where
   pub stake : KeepsStake lent origin forced faults old new

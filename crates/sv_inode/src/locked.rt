@@ -3,6 +3,7 @@ ghost use Rattle.std.specs.Prelude.{◌≡◌, ◌≤◌, ◌<◌, ◌+◌, ◌-
 ghost use Rattle.sv_form.specs.Node.{Node, bytes_of};
 ghost use Rattle.sv_form.specs.NodeChanges.{emptied, put};
 ghost use Rattle.sv_form.specs.PagePath.{greatest_size, slots};
+ghost use Rattle.sv_store.specs.Frames.{Unchanged};
 ghost use Rattle.sv_store.specs.Held.{Apart, nothing_lent};
 ghost use Rattle.sv_super.specs.Core.{left_of};
 ghost use Rattle.sv_bmap.specs.Causes.{HasReason};
@@ -52,10 +53,7 @@ impl<S: Stake> LockedInode<S> {
             (S.held self.old.stake) self.old.body.addresses at (min count (self.old.body.size - at))) }
         ensures number { self.new.number ≡ self.old.number }
         ensures body { self.new.body ≡ self.old.body }
-        ensures held { S.held self.new.stake ≡ S.held self.old.stake }
-        ensures lends { S.lent self.new.stake ≡ nothing_lent }
-        ensures forced { S.forced self.new.stake ≡ S.forced self.old.stake }
-        ensures origin { S.origin self.new.stake ≡ S.origin self.old.stake }
+        ensures stake { Unchanged S.held S.lent S.origin S.forced self.old.stake self.new.stake }
         ensures cause { HasReason (S.faults self.old.stake) (S.faults self.new.stake) result }
     {
         let _sizes = self.stake.geometry();

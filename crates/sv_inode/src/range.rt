@@ -4,6 +4,7 @@ ghost use Rattle.sv_form.specs.Geometry.{IsGeometry};
 ghost use Rattle.sv_form.specs.PagePath.{IsPage, greatest_size};
 ghost use Rattle.sv_store.specs.Calls.{CanGet, Gets};
 ghost use Rattle.sv_store.specs.Causes.{HasFault};
+ghost use Rattle.sv_store.specs.Frames.{Unchanged};
 ghost use Rattle.sv_store.specs.Held.{HoldsBlock, nothing_lent, with};
 ghost use Rattle.sv_bmap.specs.Causes.{HasReason};
 ghost use Rattle.sv_bmap.specs.Tree.{IsTree};
@@ -28,10 +29,7 @@ pub(crate) fn read_range<R: Wait, S: Stake>(
     requires end { 0 < count → at + count ≤ greatest_size (S.origin s.old).sizes }
     requires lent { S.lent s.old ≡ nothing_lent }
     ensures bytes { IfOk result (λ bytes. bytes ≡ file_bytes (S.origin s.old).sizes (S.held s.old) a.now at count) }
-    ensures held { S.held s.new ≡ S.held s.old }
-    ensures lends { S.lent s.new ≡ nothing_lent }
-    ensures forced { S.forced s.new ≡ S.forced s.old }
-    ensures origin { S.origin s.new ≡ S.origin s.old }
+    ensures stake { Unchanged S.held S.lent S.origin S.forced s.old s.new }
     ensures cause { HasReason (S.faults s.old) (S.faults s.new) result }
 {
     if count == 0 {
@@ -58,10 +56,7 @@ fn add_range<R: Wait, S: Stake>(
     requires lent { S.lent s.old ≡ nothing_lent }
     requires bytes { bytes.old.items ≡ [] }
     ensures bytes { OnOk result (bytes.new.items ≡ file_bytes (S.origin s.old).sizes (S.held s.old) a.now at count) }
-    ensures held { S.held s.new ≡ S.held s.old }
-    ensures lends { S.lent s.new ≡ nothing_lent }
-    ensures forced { S.forced s.new ≡ S.forced s.old }
-    ensures origin { S.origin s.new ≡ S.origin s.old }
+    ensures stake { Unchanged S.held S.lent S.origin S.forced s.old s.new }
     ensures cause { HasReason (S.faults s.old) (S.faults s.new) result }
 {
     let sizes = s.geometry();
@@ -116,10 +111,7 @@ fn look_ahead<R: Wait, S: Stake>(
     requires pages { (page : ℕ) → page < end → IsPage (S.origin s.old).sizes page }
     requires lent { S.lent s.old ≡ nothing_lent }
     ensures ahead { IfOk result (λ ahead. ahead ≡ present_before (S.origin s.old).sizes (S.held s.old) a.now first end) }
-    ensures held { S.held s.new ≡ S.held s.old }
-    ensures lends { S.lent s.new ≡ nothing_lent }
-    ensures forced { S.forced s.new ≡ S.forced s.old }
-    ensures origin { S.origin s.new ≡ S.origin s.old }
+    ensures stake { Unchanged S.held S.lent S.origin S.forced s.old s.new }
     ensures cause { HasFault (S.faults s.old) (S.faults s.new) result }
 {
     for page in first..end {
@@ -146,10 +138,7 @@ fn look_past<R: Wait, S: Stake>(
     requires page { page < end }
     requires lent { S.lent s.old ≡ nothing_lent }
     ensures ahead { IfOk result (λ next. next ≡ present_before (S.origin s.old).sizes (S.held s.old) a.now (page + 1) end) }
-    ensures held { S.held s.new ≡ S.held s.old }
-    ensures lends { S.lent s.new ≡ nothing_lent }
-    ensures forced { S.forced s.new ≡ S.forced s.old }
-    ensures origin { S.origin s.new ≡ S.origin s.old }
+    ensures stake { Unchanged S.held S.lent S.origin S.forced s.old s.new }
     ensures cause { HasFault (S.faults s.old) (S.faults s.new) result }
 {
     match block_at(ahead, page) {
@@ -174,10 +163,7 @@ fn add_part<R: Wait, S: Stake>(
     requires part { from + count ≤ (S.origin s.old).sizes.block_size }
     requires lent { S.lent s.old ≡ nothing_lent }
     ensures bytes { OnOk result (bytes.new.items ≡ bytes.old.items ++ part_bytes (S.held s.old) block from count) }
-    ensures held { S.held s.new ≡ S.held s.old }
-    ensures lends { S.lent s.new ≡ nothing_lent }
-    ensures forced { S.forced s.new ≡ S.forced s.old }
-    ensures origin { S.origin s.new ≡ S.origin s.old }
+    ensures stake { Unchanged S.held S.lent S.origin S.forced s.old s.new }
     ensures cause { HasReason (S.faults s.old) (S.faults s.new) result }
 {
     let Some(b) = block else {

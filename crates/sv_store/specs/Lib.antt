@@ -3,6 +3,7 @@ pub mod Bytes
 pub mod Calls
 pub mod Causes
 pub mod Content
+pub mod Frames
 pub mod Held
 pub mod Loan
 pub mod Numbered

@@ -37,10 +37,10 @@ loop-k-preserved g c = record {
       (sym (page-below (block_numbers (g.S.Stake.origin c.args.s.now).sizes) (g.S.Stake.held c.args.s.now) c.in_ok-block.block)
       ∙ ap (blocks_below (block_numbers (g.S.Stake.origin c.args.s.now).sizes) (g.S.Stake.held c.args.s.now) 0)
       (c.in_ok-block.ensures.block ∙ child-after c.loop-k.k c.loop-k.invariant.held refl)));
-  held = c.child_of.ensures.held ∙ c.loop-k.invariant.held;
-  lends = c.child_of.ensures.lends;
-  forced = c.child_of.ensures.forced ∙ c.loop-k.invariant.forced;
-  origin = c.child_of.ensures.origin ∙ c.loop-k.invariant.origin;
+  held = c.child_of.ensures.stake.lines ∙ c.loop-k.invariant.held;
+  lends = c.child_of.ensures.stake.away;
+  forced = c.child_of.ensures.stake.as_forced ∙ c.loop-k.invariant.forced;
+  origin = c.child_of.ensures.stake.home ∙ c.loop-k.invariant.origin;
   faults = omega (arith, c.loop-k.invariant.faults, c.child_of.ensures.cause.no_less);
 }
 

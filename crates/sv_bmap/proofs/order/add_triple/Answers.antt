@@ -28,7 +28,7 @@ child_of-requires-clause-block g c _ _ = λ some. held-top
 
 pub add_double-requires-clause-below : goal.add_double-requires-clause-below
 add_double-requires-clause-below g c _ _ =
-    below-after (c.child_of.ensures.origin ∙ c.loop-k.invariant.origin) (c.child_of.ensures.held ∙ c.loop-k.invariant.held)
+    below-after (c.child_of.ensures.stake.home ∙ c.loop-k.invariant.origin) (c.child_of.ensures.stake.lines ∙ c.loop-k.invariant.held)
     (c.in_ok-block.ensures.block ∙ child-after c.loop-k.k c.loop-k.invariant.held refl) (held-child c.requires.below c.loop-k.k inside)
   where
     inside : c.loop-k.k < block_numbers (g.S.Stake.origin c.args.s.now).sizes
@@ -45,12 +45,12 @@ loop-k-preserved g c = record {
       ∙ ap (λ q. c.loop-k.blocks.items ++ q)
       (blocks-after (g.S.Stake.origin c.args.s.now) (g.S.Stake.origin c.child_of.new.s) (g.S.Stake.held c.args.s.now)
       (g.S.Stake.held c.child_of.new.s) 2 (child (g.S.Stake.held c.args.s.now) c.args.b c.loop-k.k) c.in_ok-block.block
-      (c.child_of.ensures.origin ∙ c.loop-k.invariant.origin) (c.child_of.ensures.held ∙ c.loop-k.invariant.held)
+      (c.child_of.ensures.stake.home ∙ c.loop-k.invariant.origin) (c.child_of.ensures.stake.lines ∙ c.loop-k.invariant.held)
       (c.in_ok-block.ensures.block ∙ child-after c.loop-k.k c.loop-k.invariant.held refl)));
-  held = c.add_double.ensures.held ∙ (c.child_of.ensures.held ∙ c.loop-k.invariant.held);
-  lends = c.add_double.ensures.lends;
-  forced = c.add_double.ensures.forced ∙ (c.child_of.ensures.forced ∙ c.loop-k.invariant.forced);
-  origin = c.add_double.ensures.origin ∙ (c.child_of.ensures.origin ∙ c.loop-k.invariant.origin);
+  held = c.add_double.ensures.stake.lines ∙ (c.child_of.ensures.stake.lines ∙ c.loop-k.invariant.held);
+  lends = c.add_double.ensures.stake.away;
+  forced = c.add_double.ensures.stake.as_forced ∙ (c.child_of.ensures.stake.as_forced ∙ c.loop-k.invariant.forced);
+  origin = c.add_double.ensures.stake.home ∙ (c.child_of.ensures.stake.home ∙ c.loop-k.invariant.origin);
   faults = omega (arith, c.loop-k.invariant.faults, c.child_of.ensures.cause.no_less, c.add_double.ensures.cause.no_less);
 }
 

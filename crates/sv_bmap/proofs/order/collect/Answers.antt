@@ -7,12 +7,13 @@ pub add_single-requires-clause-below : goal.add_single-requires-clause-below
 add_single-requires-clause-below g c _ _ = tree-below c.requires.tree 10 1 (omega arith) (omega arith)
 
 pub add_double-requires-clause-below : goal.add_double-requires-clause-below
-add_double-requires-clause-below g c _ _ = below-after c.add_single.ensures.origin c.add_single.ensures.held refl
+add_double-requires-clause-below g c _ _ = below-after c.add_single.ensures.stake.home c.add_single.ensures.stake.lines refl
     (tree-below c.requires.tree 11 2 (omega arith) (omega arith))
 
 pub add_triple-requires-clause-below : goal.add_triple-requires-clause-below
 add_triple-requires-clause-below g c _ _ =
-    below-after (c.add_double.ensures.origin ∙ c.add_single.ensures.origin) (c.add_double.ensures.held ∙ c.add_single.ensures.held) refl
+    below-after (c.add_double.ensures.stake.home ∙ c.add_single.ensures.stake.home)
+    (c.add_double.ensures.stake.lines ∙ c.add_single.ensures.stake.lines) refl
     (tree-below c.requires.tree 12 3 (omega arith) (omega arith))
 
 pub returns-clause-blocks : goal.returns-clause-blocks
@@ -22,10 +23,11 @@ returns-clause-blocks g c =
     (c.in_ok-add_double.ensures.blocks
     ∙ ap (λ q. c.add_single.new.blocks.items ++ q)
     (blocks-after (g.S.Stake.origin c.args.s.now) (g.S.Stake.origin c.add_single.new.s) (g.S.Stake.held c.args.s.now)
-    (g.S.Stake.held c.add_single.new.s) 2 (get_or c.args.a.now 11 0) (get_or c.args.a.now 11 0) c.add_single.ensures.origin
-    c.add_single.ensures.held refl))
+    (g.S.Stake.held c.add_single.new.s) 2 (get_or c.args.a.now 11 0) (get_or c.args.a.now 11 0) c.add_single.ensures.stake.home
+    c.add_single.ensures.stake.lines refl))
     (c.in_ok-add_triple.ensures.blocks
     ∙ ap (λ q. c.add_double.new.blocks.items ++ q)
     (blocks-after (g.S.Stake.origin c.args.s.now) (g.S.Stake.origin c.add_double.new.s) (g.S.Stake.held c.args.s.now)
     (g.S.Stake.held c.add_double.new.s) 3 (get_or c.args.a.now 12 0) (get_or c.args.a.now 12 0)
-    (c.add_double.ensures.origin ∙ c.add_single.ensures.origin) (c.add_double.ensures.held ∙ c.add_single.ensures.held) refl))
+    (c.add_double.ensures.stake.home ∙ c.add_single.ensures.stake.home)
+    (c.add_double.ensures.stake.lines ∙ c.add_single.ensures.stake.lines) refl))

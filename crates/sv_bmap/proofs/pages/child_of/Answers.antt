@@ -22,10 +22,15 @@ returns-clause-block g c =
     is : IsSome (g.S.Stake.held c.args.s.now c.args.b (c.args.k / 16))
     is = (c.requires.block c.if-b-eq0.false).at (c.args.k / 16) (omega (arith, c.requires.place))
 
-pub returns-clause-lends : goal.returns-clause-lends
-returns-clause-lends g c =
-    c.brelse.ensures.lends
-    ∙ (ap (λ q. without q (g.S.Stake.lent c.bread.new.self)) c.in_ok-buf.ensures.ok.block
-    ∙ (ap (without c.args.b) c.in_ok-buf.ensures.lends
-    ∙ (without-with c.args.b c.in_ok-buf.buf.bytes (g.S.Stake.lent c.args.s.now) (ap (λ (q : Lent). q c.args.b) c.requires.lent)
-    ∙ c.requires.lent)))
+pub returns-clause-stake : goal.returns-clause-stake
+returns-clause-stake g c = record {
+  lines = c.brelse.ensures.held ∙ c.bread.ensures.held;
+  away =
+      c.brelse.ensures.lends
+      ∙ (ap (λ q. without q (g.S.Stake.lent c.bread.new.self)) c.in_ok-buf.ensures.ok.block
+      ∙ (ap (without c.args.b) c.in_ok-buf.ensures.lends
+      ∙ (without-with c.args.b c.in_ok-buf.buf.bytes (g.S.Stake.lent c.args.s.now) (ap (λ (q : Lent). q c.args.b) c.requires.lent)
+      ∙ c.requires.lent)));
+  as_forced = c.brelse.ensures.forced ∙ c.bread.ensures.forced;
+  home = c.brelse.ensures.origin ∙ c.bread.ensures.origin;
+}

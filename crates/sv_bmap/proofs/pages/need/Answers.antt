@@ -34,9 +34,9 @@ loop-k-preserved g c = record {
       c.loop-k.invariant.held)
       ∙ sym (need-more (g.S.Stake.origin c.args.s.now).sizes (g.S.Stake.held c.args.s.now) c.args.a.now c.args.first c.loop-k.k);
   few = omega (arith, c.loop-k.invariant.few, c.in_ok-missing.ensures.few);
-  held = c.need_of_page.ensures.held ∙ c.loop-k.invariant.held;
-  lends = c.need_of_page.ensures.lends;
-  forced = c.need_of_page.ensures.forced ∙ c.loop-k.invariant.forced;
-  origin = c.need_of_page.ensures.origin ∙ c.loop-k.invariant.origin;
+  held = c.need_of_page.ensures.stake.lines ∙ c.loop-k.invariant.held;
+  lends = c.need_of_page.ensures.stake.away;
+  forced = c.need_of_page.ensures.stake.as_forced ∙ c.loop-k.invariant.forced;
+  origin = c.need_of_page.ensures.stake.home ∙ c.loop-k.invariant.origin;
   faults = omega (arith, c.loop-k.invariant.faults, c.need_of_page.ensures.cause.no_less);
 }

@@ -10,11 +10,12 @@ lookup-first-requires-clause-page g c _ _ =
     (ap (λ q. q.sizes.first_data) c.in_ok-stake.ensures.sizes)) c.args.page (omega (arith, c.requires))
 
 pub lookup-second-requires-clause-tree : goal.lookup-second-requires-clause-tree
-lookup-second-requires-clause-tree g c _ _ = tree-after c.lookup-first.ensures.origin c.lookup-first.ensures.held c.in_ok-stake.ensures.tree
+lookup-second-requires-clause-tree g c _ _ = tree-after c.lookup-first.ensures.stake.home c.lookup-first.ensures.stake.lines
+    c.in_ok-stake.ensures.tree
 
 pub lookup-second-requires-clause-page : goal.lookup-second-requires-clause-page
 lookup-second-requires-clause-page g c _ _ =
-    is-page _ (small _ (ap (λ q. q.sizes.block_size) (c.lookup-first.ensures.origin ∙ c.in_ok-stake.ensures.sizes))
-    (ap (λ q. q.sizes.blocks) (c.lookup-first.ensures.origin ∙ c.in_ok-stake.ensures.sizes))
-    (ap (λ q. q.sizes.first_data) (c.lookup-first.ensures.origin ∙ c.in_ok-stake.ensures.sizes))) c.args.page
+    is-page _ (small _ (ap (λ q. q.sizes.block_size) (c.lookup-first.ensures.stake.home ∙ c.in_ok-stake.ensures.sizes))
+    (ap (λ q. q.sizes.blocks) (c.lookup-first.ensures.stake.home ∙ c.in_ok-stake.ensures.sizes))
+    (ap (λ q. q.sizes.first_data) (c.lookup-first.ensures.stake.home ∙ c.in_ok-stake.ensures.sizes))) c.args.page
     (omega (arith, c.requires))

@@ -10,11 +10,12 @@ need-once-requires-clause-pages g c _ _ = λ k low.
     (ap (λ q. q.sizes.first_data) c.in_ok-stake.ensures.sizes)) (c.args.first + k) (omega (arith, low, c.requires))
 
 pub need-again-requires-clause-tree : goal.need-again-requires-clause-tree
-need-again-requires-clause-tree g c _ _ = tree-after c.need-once.ensures.origin c.need-once.ensures.held c.in_ok-stake.ensures.tree
+need-again-requires-clause-tree g c _ _ = tree-after c.need-once.ensures.stake.home c.need-once.ensures.stake.lines
+    c.in_ok-stake.ensures.tree
 
 pub need-again-requires-clause-pages : goal.need-again-requires-clause-pages
 need-again-requires-clause-pages g c _ _ = λ k low.
-    is-page _ (small _ (ap (λ q. q.sizes.block_size) (c.need-once.ensures.origin ∙ c.in_ok-stake.ensures.sizes))
-    (ap (λ q. q.sizes.blocks) (c.need-once.ensures.origin ∙ c.in_ok-stake.ensures.sizes))
-    (ap (λ q. q.sizes.first_data) (c.need-once.ensures.origin ∙ c.in_ok-stake.ensures.sizes))) (c.args.first + k)
+    is-page _ (small _ (ap (λ q. q.sizes.block_size) (c.need-once.ensures.stake.home ∙ c.in_ok-stake.ensures.sizes))
+    (ap (λ q. q.sizes.blocks) (c.need-once.ensures.stake.home ∙ c.in_ok-stake.ensures.sizes))
+    (ap (λ q. q.sizes.first_data) (c.need-once.ensures.stake.home ∙ c.in_ok-stake.ensures.sizes))) (c.args.first + k)
     (omega (arith, low, c.requires))

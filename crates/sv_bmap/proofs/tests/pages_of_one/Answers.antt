@@ -17,7 +17,7 @@ lookup-requires-clause-page g c _ _ =
     (ap (λ q. q.sizes.first_data) c.in_ok-stake.ensures.sizes)) 0 (omega arith)
 
 pub lookup-requires-2-clause-tree : goal.lookup-requires-2-clause-tree
-lookup-requires-2-clause-tree g c _ _ = tree-after c.lookup.ensures.origin c.lookup.ensures.held
+lookup-requires-2-clause-tree g c _ _ = tree-after c.lookup.ensures.stake.home c.lookup.ensures.stake.lines
     (first-tree _ _ 50 (record {
       at = λ l line. c.in_ok-stake.ensures.held 50 l (omega arith)
           (omega (arith, line, ap (λ q. q.sizes.block_size) c.in_ok-stake.ensures.sizes));
@@ -25,13 +25,13 @@ lookup-requires-2-clause-tree g c _ _ = tree-after c.lookup.ensures.origin c.loo
 
 pub lookup-requires-2-clause-page : goal.lookup-requires-2-clause-page
 lookup-requires-2-clause-page g c _ _ =
-    is-page _ (small _ (ap (λ q. q.sizes.block_size) (c.lookup.ensures.origin ∙ c.in_ok-stake.ensures.sizes))
-    (ap (λ q. q.sizes.blocks) (c.lookup.ensures.origin ∙ c.in_ok-stake.ensures.sizes))
-    (ap (λ q. q.sizes.first_data) (c.lookup.ensures.origin ∙ c.in_ok-stake.ensures.sizes))) 1 (omega arith)
+    is-page _ (small _ (ap (λ q. q.sizes.block_size) (c.lookup.ensures.stake.home ∙ c.in_ok-stake.ensures.sizes))
+    (ap (λ q. q.sizes.blocks) (c.lookup.ensures.stake.home ∙ c.in_ok-stake.ensures.sizes))
+    (ap (λ q. q.sizes.first_data) (c.lookup.ensures.stake.home ∙ c.in_ok-stake.ensures.sizes))) 1 (omega arith)
 
 pub need-requires-clause-tree : goal.need-requires-clause-tree
 need-requires-clause-tree g c _ _ =
-    tree-after (c.lookup-2.ensures.origin ∙ c.lookup.ensures.origin) (c.lookup-2.ensures.held ∙ c.lookup.ensures.held)
+    tree-after (c.lookup-2.ensures.stake.home ∙ c.lookup.ensures.stake.home) (c.lookup-2.ensures.stake.lines ∙ c.lookup.ensures.stake.lines)
     (first-tree _ _ 50 (record {
       at = λ l line. c.in_ok-stake.ensures.held 50 l (omega arith)
           (omega (arith, line, ap (λ q. q.sizes.block_size) c.in_ok-stake.ensures.sizes));
@@ -39,7 +39,7 @@ need-requires-clause-tree g c _ _ =
 
 pub need-requires-clause-pages : goal.need-requires-clause-pages
 need-requires-clause-pages g c _ _ = λ k low. is-page _
-    (small _ (ap (λ q. q.sizes.block_size) (c.lookup-2.ensures.origin ∙ (c.lookup.ensures.origin ∙ c.in_ok-stake.ensures.sizes)))
-    (ap (λ q. q.sizes.blocks) (c.lookup-2.ensures.origin ∙ (c.lookup.ensures.origin ∙ c.in_ok-stake.ensures.sizes)))
-    (ap (λ q. q.sizes.first_data) (c.lookup-2.ensures.origin ∙ (c.lookup.ensures.origin ∙ c.in_ok-stake.ensures.sizes)))) (0 + k)
+    (small _ (ap (λ q. q.sizes.block_size) (c.lookup-2.ensures.stake.home ∙ (c.lookup.ensures.stake.home ∙ c.in_ok-stake.ensures.sizes)))
+    (ap (λ q. q.sizes.blocks) (c.lookup-2.ensures.stake.home ∙ (c.lookup.ensures.stake.home ∙ c.in_ok-stake.ensures.sizes)))
+    (ap (λ q. q.sizes.first_data) (c.lookup-2.ensures.stake.home ∙ (c.lookup.ensures.stake.home ∙ c.in_ok-stake.ensures.sizes)))) (0 + k)
     (omega (arith, low))

@@ -19,7 +19,7 @@ attach-requires-clause-away g c κs within = all-away c.take_out.new.names.items
 
 pub attach-requires-clause-home : goal.attach-requires-clause-home
 attach-requires-clause-home g c κs within = all-home c.take_out.new.names.items c.take_out.new.parts.items
-    (c.take_out.ensures.parts (g.S.Stake.origin c.args.inode.now.stake) c.requires.cuts.0 c.requires.cuts.1.each) c.need.ensures.origin
+    (c.take_out.ensures.parts (g.S.Stake.origin c.args.inode.now.stake) c.requires.cuts.0 c.requires.cuts.1.each) c.need.ensures.stake.home
 
 pub attach-requires-clause-new : goal.attach-requires-clause-new
 attach-requires-clause-new g c κs within =
@@ -28,7 +28,7 @@ attach-requires-clause-new g c κs within =
     (let P : Geometry → Type 0 = IsGeometry in subst P c.geometry-sizes.ensures.value c.geometry-sizes.ensures.sizes)
     c.requires.hole.hole (c.take_out.ensures.count ∙ c.in-Ok.ensures.need) c.requires.cuts.1 c.take_out.ensures.names
     (c.take_out.ensures.parts (g.S.Stake.origin c.args.inode.now.stake) c.requires.cuts.0 c.requires.cuts.1.each) c.as_slice.ensures.value
-    c.need.ensures.origin c.need.ensures.held
+    c.need.ensures.stake.home c.need.ensures.stake.lines
 
 pub put_back-requires-clause-room : goal.put_back-requires-clause-room
 put_back-requires-clause-room g c κs within =
@@ -63,10 +63,10 @@ returns-in-Ok-attach-clause-node g c = λ node stands.
     (let P : Origin → Type 0 = λ q. StandsFor q (g.S.Stake.held c.attach.new.s)
     (record c.args.inode.now.body { addresses = c.attach.new.a })
     (record node { pages = fmap.insert node.pages c.args.page c.args.bytes.now }) in
-    subst P (sym (c.attach.ensures.origin ∙ c.need.ensures.origin))
+    subst P (sym (c.attach.ensures.origin ∙ c.need.ensures.stake.home))
     (attached-stands (let P : Geometry → Type 0 = IsGeometry in subst P c.geometry-sizes.ensures.value c.geometry-sizes.ensures.sizes)
     c.requires.hole.is_page stands
-    (attaches-since c.need.ensures.origin c.need.ensures.held c.as_slice.ensures.value c.in-Ok-attach.ensures.ok)
+    (attaches-since c.need.ensures.stake.home c.need.ensures.stake.lines c.as_slice.ensures.value c.in-Ok-attach.ensures.ok)
     (blocks-in-data c.take_out.new.names.items c.take_out.new.cuts.items c.args.cuts.now.items c.requires.cuts.1 c.take_out.ensures.names)
     c.requires.size))
 
@@ -76,7 +76,7 @@ returns-in-Ok-attach-clause-cuts g c = λ h can.
     c.take_out.ensures.names
     (c.take_out.ensures.left (g.S.Stake.origin c.args.inode.now.stake) h can.each)
     (c.take_out.ensures.parts (g.S.Stake.origin c.args.inode.now.stake) h can.each)
-    (attaches-since c.need.ensures.origin c.need.ensures.held c.as_slice.ensures.value c.in-Ok-attach.ensures.ok).lines
+    (attaches-since c.need.ensures.stake.home c.need.ensures.stake.lines c.as_slice.ensures.value c.in-Ok-attach.ensures.ok).lines
 
 pub returns-in-Ok-attach-clause-need : goal.returns-in-Ok-attach-clause-need
 returns-in-Ok-attach-clause-need g c = λ n is.
@@ -86,12 +86,12 @@ returns-in-Ok-attach-clause-need g c = λ n is.
       need-attached {o = g.S.Stake.origin c.args.inode.now.stake} c.args.page n
           (let P : Geometry → Type 0 = IsGeometry in subst P c.geometry-sizes.ensures.value c.geometry-sizes.ensures.sizes) is
           c.requires.stands.1.tree (c.take_out.ensures.count ∙ c.in-Ok.ensures.need)
-          (attaches-since c.need.ensures.origin c.need.ensures.held c.as_slice.ensures.value c.in-Ok-attach.ensures.ok),
+          (attaches-since c.need.ensures.stake.home c.need.ensures.stake.lines c.as_slice.ensures.value c.in-Ok-attach.ensures.ok),
     )
 
 pub returns-in-Err-attach-clause-cuts : goal.returns-in-Err-attach-clause-cuts
 returns-in-Err-attach-clause-cuts g c = λ h can.
-    uses-none c.put_back.new.cuts.items c.args.cuts.now.items can (same-held (c.in-Err-attach.ensures.held ∙ c.need.ensures.held))
+    uses-none c.put_back.new.cuts.items c.args.cuts.now.items can (same-held (c.in-Err-attach.ensures.held ∙ c.need.ensures.stake.lines))
     (c.put_back.ensures.names ∙ c.take_out.ensures.names)
     (c.put_back.ensures.each (g.S.Stake.origin c.args.inode.now.stake) h
     (c.take_out.ensures.left (g.S.Stake.origin c.args.inode.now.stake) h can.each)
@@ -111,13 +111,13 @@ returns-in-Err-attach-clause-count g c =
 pub returns-in-Err-clause-front : goal.returns-in-Err-clause-front
 returns-in-Err-clause-front g c = record {
   stake = record {
-    away = c.need.ensures.lends;
-    as_forced = c.need.ensures.forced;
-    home = c.need.ensures.origin;
+    away = c.need.ensures.stake.away;
+    as_forced = c.need.ensures.stake.as_forced;
+    home = c.need.ensures.stake.home;
     no_less =
         c.need.ensures.cause.no_less;
   };
-  before = λ b l low is. ap (λ q. q b l) c.need.ensures.held;
+  before = λ b l low is. ap (λ q. q b l) c.need.ensures.stake.lines;
 }
 
 pub returns-in-Ok-attach-clause-front : goal.returns-in-Ok-attach-clause-front
@@ -126,34 +126,34 @@ returns-in-Ok-attach-clause-front g c = record {
     away = c.attach.ensures.lends;
     as_forced = none-forced c.take_out.new.names.items c.take_out.new.parts.items
         (c.take_out.ensures.parts (g.S.Stake.origin c.args.inode.now.stake) c.requires.cuts.0 c.requires.cuts.1.each)
-        c.in-Ok-attach.ensures.forced ∙ c.need.ensures.forced;
-    home = c.attach.ensures.origin ∙ c.need.ensures.origin;
+        c.in-Ok-attach.ensures.forced ∙ c.need.ensures.stake.as_forced;
+    home = c.attach.ensures.origin ∙ c.need.ensures.stake.home;
     no_less = omega (arith, c.attach.ensures.faults, c.need.ensures.cause.no_less);
   };
   before = attached-before c.requires.stands.1.tree c.requires.stands.1.data_blocks
-      (attaches-since c.need.ensures.origin c.need.ensures.held c.as_slice.ensures.value c.in-Ok-attach.ensures.ok);
+      (attaches-since c.need.ensures.stake.home c.need.ensures.stake.lines c.as_slice.ensures.value c.in-Ok-attach.ensures.ok);
 }
 
 pub returns-in-Err-attach-clause-front : goal.returns-in-Err-attach-clause-front
 returns-in-Err-attach-clause-front g c = record {
   stake = record {
     away = c.attach.ensures.lends;
-    as_forced = c.in-Err-attach.ensures.unforced ∙ c.need.ensures.forced;
-    home = c.attach.ensures.origin ∙ c.need.ensures.origin;
+    as_forced = c.in-Err-attach.ensures.unforced ∙ c.need.ensures.stake.as_forced;
+    home = c.attach.ensures.origin ∙ c.need.ensures.stake.home;
     no_less = omega (arith, c.attach.ensures.faults, c.need.ensures.cause.no_less);
   };
-  before = λ b l low is. ap (λ q. q b l) (c.in-Err-attach.ensures.held ∙ c.need.ensures.held);
+  before = λ b l low is. ap (λ q. q b l) (c.in-Err-attach.ensures.held ∙ c.need.ensures.stake.lines);
 }
 
 pub returns-in-Err-clause-only : goal.returns-in-Err-clause-only
-returns-in-Err-clause-only g c = λ n was. only-same c.need.ensures.held refl was
+returns-in-Err-clause-only g c = λ n was. only-same c.need.ensures.stake.lines refl was
 
 pub returns-in-Ok-attach-clause-only : goal.returns-in-Ok-attach-clause-only
 returns-in-Ok-attach-clause-only g c = λ n was.
     only-grown c.take_out.new.names.items c.take_out.new.parts.items n c.requires.stands.1.tree
-    (attaches-since c.need.ensures.origin c.need.ensures.held c.as_slice.ensures.value c.in-Ok-attach.ensures.ok)
+    (attaches-since c.need.ensures.stake.home c.need.ensures.stake.lines c.as_slice.ensures.value c.in-Ok-attach.ensures.ok)
     (c.take_out.ensures.parts (g.S.Stake.origin c.args.inode.now.stake) c.requires.cuts.0 c.requires.cuts.1.each) was
 
 pub returns-in-Err-attach-clause-only : goal.returns-in-Err-attach-clause-only
 returns-in-Err-attach-clause-only g c = λ n was.
-    only-same (c.in-Err-attach.ensures.held ∙ c.need.ensures.held) c.in-Err-attach.ensures.addresses was
+    only-same (c.in-Err-attach.ensures.held ∙ c.need.ensures.stake.lines) c.in-Err-attach.ensures.addresses was

@@ -15,12 +15,12 @@ pub overwrite-requires-clause-block : goal.overwrite-requires-clause-block
 overwrite-requires-clause-block g c κs within =
     some-held c.args.inode.now.body.addresses c.args.page c.in-Some.b
     (let P : Geometry → Type 0 = IsGeometry in subst P c.geometry-sizes.ensures.value c.geometry-sizes.ensures.sizes)
-    c.requires.piece.is_page c.requires.stands.1.tree (sym c.in_ok-block.ensures.block ∙ c.in-Some.is) c.lookup.ensures.origin
-    c.lookup.ensures.held
+    c.requires.piece.is_page c.requires.stands.1.tree (sym c.in_ok-block.ensures.block ∙ c.in-Some.is) c.lookup.ensures.stake.home
+    c.lookup.ensures.stake.lines
 
 pub add_page-requires-clause-stands : goal.add_page-requires-clause-stands
 add_page-requires-clause-stands g c κs within =
-    (c.requires.stands.0, stands-since c.lookup.ensures.origin c.lookup.ensures.held c.requires.stands.1)
+    (c.requires.stands.0, stands-since c.lookup.ensures.stake.home c.lookup.ensures.stake.lines c.requires.stands.1)
 
 pub add_page-requires-clause-room : goal.add_page-requires-clause-room
 add_page-requires-clause-room g c κs within = record {
@@ -35,25 +35,25 @@ returns-in-Some-clause-node g c = λ node stands.
     IfOk-weaker c.overwrite.result _ _ (λ _ got.
     piece-present c.args.page c.args.from c.args.piece.now
     (let P : Geometry → Type 0 = IsGeometry in subst P c.geometry-sizes.ensures.value c.geometry-sizes.ensures.sizes)
-    c.requires.piece.is_page c.requires.piece.fits stands (sym c.in_ok-block.ensures.block ∙ c.in-Some.is) c.lookup.ensures.origin
-    c.lookup.ensures.held c.overwrite.ensures.origin got.1.0 got.1.1) c.overwrite.ensures.ok
+    c.requires.piece.is_page c.requires.piece.fits stands (sym c.in_ok-block.ensures.block ∙ c.in-Some.is) c.lookup.ensures.stake.home
+    c.lookup.ensures.stake.lines c.overwrite.ensures.origin got.1.0 got.1.1) c.overwrite.ensures.ok
 
 pub returns-in-Some-clause-cuts : goal.returns-in-Some-clause-cuts
 returns-in-Some-clause-cuts g c = λ h can.
     uses-none c.args.supplies.now.cuts.items c.args.supplies.now.cuts.items can
-    (record { at = λ b l. c.overwrite.ensures.lines.at b l ∙ ap (λ q. is_some (q b l)) c.lookup.ensures.held }) refl can.each
+    (record { at = λ b l. c.overwrite.ensures.lines.at b l ∙ ap (λ q. is_some (q b l)) c.lookup.ensures.stake.lines }) refl can.each
 
 pub returns-in-Some-clause-need : goal.returns-in-Some-clause-need
 returns-in-Some-clause-need g c =
     IfOk-weaker c.overwrite.result _ _ (λ _ got.
     need-put c.args.inode.now.body.addresses c.args.page c.in-Some.b _ (patched got.0.bytes c.args.from c.args.piece.now)
     (let P : Geometry → Type 0 = IsGeometry in subst P c.geometry-sizes.ensures.value c.geometry-sizes.ensures.sizes)
-    c.requires.stands.1.tree (sym c.in_ok-block.ensures.block ∙ c.in-Some.is) c.lookup.ensures.held got.1.1) c.overwrite.ensures.ok
+    c.requires.stands.1.tree (sym c.in_ok-block.ensures.block ∙ c.in-Some.is) c.lookup.ensures.stake.lines got.1.1) c.overwrite.ensures.ok
 
 pub returns-in-Some-pop-clause-need : goal.returns-in-Some-pop-clause-need
 returns-in-Some-pop-clause-need g c =
     need-since (g.S.Stake.held c.add_page.new.inode.stake) c.args.inode.now.body.addresses c.add_page.new.inode.body.addresses c.args.page
-    _ _ c.add_page.result c.lookup.ensures.origin c.lookup.ensures.held c.add_page.ensures.need
+    _ _ c.add_page.result c.lookup.ensures.stake.home c.lookup.ensures.stake.lines c.add_page.ensures.need
 
 pub returns-in-Some-clause-rooms : goal.returns-in-Some-clause-rooms
 returns-in-Some-clause-rooms g c = record {
@@ -84,8 +84,8 @@ pub returns-in-Some-clause-front : goal.returns-in-Some-clause-front
 returns-in-Some-clause-front g c = record {
   stake = record {
     away = c.overwrite.ensures.lends;
-    as_forced = c.overwrite.ensures.forced ∙ c.lookup.ensures.forced;
-    home = c.overwrite.ensures.origin ∙ c.lookup.ensures.origin;
+    as_forced = c.overwrite.ensures.forced ∙ c.lookup.ensures.stake.as_forced;
+    home = c.overwrite.ensures.origin ∙ c.lookup.ensures.stake.home;
     no_less = omega (arith, c.overwrite.ensures.cause.no_less, c.lookup.ensures.cause.no_less);
   };
   before = λ b l low is.
@@ -98,21 +98,21 @@ returns-in-Some-clause-front g c = record {
             (let P : Geometry → Type 0 = IsGeometry in subst P c.geometry-sizes.ensures.value c.geometry-sizes.ensures.sizes)
             c.requires.piece.is_page c.requires.stands.1.data_blocks (sym c.in_ok-block.ensures.block ∙ c.in-Some.is)).least,
       )))
-      ∙ ap (λ q. q b l) c.lookup.ensures.held;
+      ∙ ap (λ q. q b l) c.lookup.ensures.stake.lines;
 }
 
 pub returns-in-Some-pop-clause-front : goal.returns-in-Some-pop-clause-front
 returns-in-Some-pop-clause-front g c = record {
   stake = record {
     away = c.add_page.ensures.front.stake.away;
-    as_forced = c.add_page.ensures.front.stake.as_forced ∙ c.lookup.ensures.forced;
-    home = c.add_page.ensures.front.stake.home ∙ c.lookup.ensures.origin;
+    as_forced = c.add_page.ensures.front.stake.as_forced ∙ c.lookup.ensures.stake.as_forced;
+    home = c.add_page.ensures.front.stake.home ∙ c.lookup.ensures.stake.home;
     no_less = omega (arith, c.add_page.ensures.front.stake.no_less, c.lookup.ensures.cause.no_less);
   };
   before = λ b l low is.
-      c.add_page.ensures.front.before b l (omega (arith, low, ap (λ q. q.sizes.first_data) c.lookup.ensures.origin))
-      (ap (λ q. is_some (q b l)) c.lookup.ensures.held ∙ is)
-      ∙ ap (λ q. q b l) c.lookup.ensures.held;
+      c.add_page.ensures.front.before b l (omega (arith, low, ap (λ q. q.sizes.first_data) c.lookup.ensures.stake.home))
+      (ap (λ q. is_some (q b l)) c.lookup.ensures.stake.lines ∙ is)
+      ∙ ap (λ q. q b l) c.lookup.ensures.stake.lines;
 }
 
 pub returns-in-Some-clause-only : goal.returns-in-Some-clause-only
@@ -120,9 +120,10 @@ returns-in-Some-clause-only g c = λ n was.
     on-either c.overwrite.result
     (λ got. only-written c.args.page (patched got.0.bytes c.args.from c.args.piece.now) n
     (let P : Geometry → Type 0 = IsGeometry in subst P c.geometry-sizes.ensures.value c.geometry-sizes.ensures.sizes)
-    c.requires.piece.is_page c.requires.stands.1.tree (sym c.in_ok-block.ensures.block ∙ c.in-Some.is) c.lookup.ensures.held got.1.1 was)
-    (λ same. only-same (same ∙ c.lookup.ensures.held) refl was) c.overwrite.ensures.ok c.overwrite.ensures.err
+    c.requires.piece.is_page c.requires.stands.1.tree (sym c.in_ok-block.ensures.block ∙ c.in-Some.is) c.lookup.ensures.stake.lines got.1.1
+    was)
+    (λ same. only-same (same ∙ c.lookup.ensures.stake.lines) refl was) c.overwrite.ensures.ok c.overwrite.ensures.err
 
 pub returns-in-Some-pop-clause-only : goal.returns-in-Some-pop-clause-only
 returns-in-Some-pop-clause-only g c = λ n was.
-    only-moved c.lookup.ensures.origin (λ q. c.add_page.ensures.only n (only-same c.lookup.ensures.held refl q)) was
+    only-moved c.lookup.ensures.stake.home (λ q. c.add_page.ensures.only n (only-same c.lookup.ensures.stake.lines refl q)) was

@@ -16,13 +16,18 @@ returns-in_default-clause-bytes g c =
 pub brelse-requires : goal.brelse-requires
 brelse-requires g c = CanReturn-got c.in_ok-buf.ensures.ok _ _ c.in_ok-buf.ensures.lends
 
-pub returns-in_err-added-clause-lends : goal.returns-in_err-added-clause-lends
-returns-in_err-added-clause-lends g c =
-    c.brelse.ensures.lends
-    ∙ (ap (λ q. without q (g.S.Stake.lent c.get_page.new.s)) c.in_ok-buf.ensures.ok.block
-    ∙ (ap (without c.in-Some.b) c.in_ok-buf.ensures.lends
-    ∙ (without-with c.in-Some.b c.in_ok-buf.buf.bytes (g.S.Stake.lent c.args.s.now) (ap (λ (q : Lent). q c.in-Some.b) c.requires.lent)
-    ∙ c.requires.lent)))
+pub returns-in_err-added-clause-stake : goal.returns-in_err-added-clause-stake
+returns-in_err-added-clause-stake g c = record {
+  lines = c.brelse.ensures.held ∙ c.get_page.ensures.held;
+  away =
+      c.brelse.ensures.lends
+      ∙ (ap (λ q. without q (g.S.Stake.lent c.get_page.new.s)) c.in_ok-buf.ensures.ok.block
+      ∙ (ap (without c.in-Some.b) c.in_ok-buf.ensures.lends
+      ∙ (without-with c.in-Some.b c.in_ok-buf.buf.bytes (g.S.Stake.lent c.args.s.now) (ap (λ (q : Lent). q c.in-Some.b) c.requires.lent)
+      ∙ c.requires.lent)));
+  as_forced = c.brelse.ensures.forced ∙ c.get_page.ensures.forced;
+  home = c.brelse.ensures.origin ∙ c.get_page.ensures.origin;
+}
 
 pub returns-clause-bytes : goal.returns-clause-bytes
 returns-clause-bytes g c =
@@ -37,10 +42,15 @@ returns-clause-bytes g c =
         → Type 0 = λ q. IfSome q (λ b. HoldsBlock (g.S.Stake.origin c.args.s.now) (g.S.Stake.held c.args.s.now) b) in subst P c.in-Some.is
         c.requires.block)
 
-pub returns-clause-lends : goal.returns-clause-lends
-returns-clause-lends g c =
-    c.brelse.ensures.lends
-    ∙ (ap (λ q. without q (g.S.Stake.lent c.get_page.new.s)) c.in_ok-buf.ensures.ok.block
-    ∙ (ap (without c.in-Some.b) c.in_ok-buf.ensures.lends
-    ∙ (without-with c.in-Some.b c.in_ok-buf.buf.bytes (g.S.Stake.lent c.args.s.now) (ap (λ (q : Lent). q c.in-Some.b) c.requires.lent)
-    ∙ c.requires.lent)))
+pub returns-clause-stake : goal.returns-clause-stake
+returns-clause-stake g c = record {
+  lines = c.brelse.ensures.held ∙ c.get_page.ensures.held;
+  away =
+      c.brelse.ensures.lends
+      ∙ (ap (λ q. without q (g.S.Stake.lent c.get_page.new.s)) c.in_ok-buf.ensures.ok.block
+      ∙ (ap (without c.in-Some.b) c.in_ok-buf.ensures.lends
+      ∙ (without-with c.in-Some.b c.in_ok-buf.buf.bytes (g.S.Stake.lent c.args.s.now) (ap (λ (q : Lent). q c.in-Some.b) c.requires.lent)
+      ∙ c.requires.lent)));
+  as_forced = c.brelse.ensures.forced ∙ c.get_page.ensures.forced;
+  home = c.brelse.ensures.origin ∙ c.get_page.ensures.origin;
+}

@@ -18,10 +18,10 @@ loop-page-init g c = record {
       ∙ present_after {o = g.S.Stake.origin c.args.s.now} c.geometry-sizes.result c.args.a.now _ c.div_ceil-pages.result
       c.geometry-sizes.ensures.value refl refl;
   first = omega arith;
-  held = c.look_ahead.ensures.held;
-  lends = c.look_ahead.ensures.lends;
-  forced = c.look_ahead.ensures.forced;
-  origin = c.look_ahead.ensures.origin;
+  held = c.look_ahead.ensures.stake.lines;
+  lends = c.look_ahead.ensures.stake.away;
+  forced = c.look_ahead.ensures.stake.as_forced;
+  origin = c.look_ahead.ensures.stake.home;
   faults = c.look_ahead.ensures.cause.no_less;
 }
 
@@ -29,7 +29,7 @@ pub add_part-requires-clause-block : goal.add_part-requires-clause-block
 add_part-requires-clause-block g c _ _ =
     some_after c.block_at-block.result
     (block_of (g.S.Stake.origin c.args.s.now).sizes (g.S.Stake.held c.args.s.now) c.args.a.now c.loop-page.page)
-    (c.look_past.ensures.origin ∙ c.loop-page.invariant.origin) (c.look_past.ensures.held ∙ c.loop-page.invariant.held)
+    (c.look_past.ensures.stake.home ∙ c.loop-page.invariant.origin) (c.look_past.ensures.stake.lines ∙ c.loop-page.invariant.held)
     (c.block_at-block.ensures
     ∙ (ap (block_there c.loop-page.page) c.loop-page.invariant.ahead
     ∙ (there_is c.geometry-sizes.result (g.S.Stake.held c.args.s.now) c.args.a.now c.loop-page.page c.div_ceil-pages.result
@@ -48,7 +48,7 @@ add_part-requires-clause-block g c _ _ =
 pub add_part-requires-clause-next : goal.add_part-requires-clause-next
 add_part-requires-clause-next g c _ _ =
     range_after c.geometry-sizes.result c.block_of.result c.geometry-sizes.ensures.value c.geometry-sizes.ensures.sizes
-    c.geometry-sizes.ensures.range (c.look_past.ensures.origin ∙ c.loop-page.invariant.origin)
+    c.geometry-sizes.ensures.range (c.look_past.ensures.stake.home ∙ c.loop-page.invariant.origin)
     (some_after {o = g.S.Stake.origin c.args.s.now} {h = g.S.Stake.held c.args.s.now} c.block_of.result _ refl refl
     (c.block_of.ensures ∙ ap ahead_block
     (c.in_ok-next.ensures.ahead
@@ -91,10 +91,10 @@ loop-page-preserved g c = record {
       ∙ present_after {o = g.S.Stake.origin c.args.s.now} c.geometry-sizes.result c.args.a.now
       (c.loop-page.page + 1) c.div_ceil-pages.result c.geometry-sizes.ensures.value c.loop-page.invariant.origin c.loop-page.invariant.held;
   first = omega (arith, c.loop-page.invariant.first);
-  held = c.add_part.ensures.held ∙ same_held;
-  lends = c.add_part.ensures.lends;
-  forced = c.add_part.ensures.forced ∙ (c.look_past.ensures.forced ∙ c.loop-page.invariant.forced);
-  origin = c.add_part.ensures.origin ∙ (c.look_past.ensures.origin ∙ c.loop-page.invariant.origin);
+  held = c.add_part.ensures.stake.lines ∙ same_held;
+  lends = c.add_part.ensures.stake.away;
+  forced = c.add_part.ensures.stake.as_forced ∙ (c.look_past.ensures.stake.as_forced ∙ c.loop-page.invariant.forced);
+  origin = c.add_part.ensures.stake.home ∙ (c.look_past.ensures.stake.home ∙ c.loop-page.invariant.origin);
   faults = omega (arith, c.loop-page.invariant.faults, c.look_past.ensures.cause.no_less, c.add_part.ensures.cause.no_less);
 }
   where
@@ -102,4 +102,4 @@ loop-page-preserved g c = record {
     pos = size_some _ c.geometry-sizes.ensures.sizes
 
     same_held : g.S.Stake.held c.look_past.new.s ≡ g.S.Stake.held c.args.s.now
-    same_held = c.look_past.ensures.held ∙ c.loop-page.invariant.held
+    same_held = c.look_past.ensures.stake.lines ∙ c.loop-page.invariant.held

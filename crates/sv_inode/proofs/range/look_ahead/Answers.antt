@@ -25,9 +25,9 @@ loop-page-preserved g c = record {
       c.loop-page-test.true
       (sym (block_after c.args.a.now c.loop-page.page c.loop-page.invariant.origin c.loop-page.invariant.held)
       ∙ (sym c.in_ok-block.ensures.block ∙ c.in_default.is));
-  held = c.lookup.ensures.held ∙ c.loop-page.invariant.held;
-  lends = c.lookup.ensures.lends;
-  forced = c.lookup.ensures.forced ∙ c.loop-page.invariant.forced;
-  origin = c.lookup.ensures.origin ∙ c.loop-page.invariant.origin;
+  held = c.lookup.ensures.stake.lines ∙ c.loop-page.invariant.held;
+  lends = c.lookup.ensures.stake.away;
+  forced = c.lookup.ensures.stake.as_forced ∙ c.loop-page.invariant.forced;
+  origin = c.lookup.ensures.stake.home ∙ c.loop-page.invariant.origin;
   faults = omega (arith, c.loop-page.invariant.faults, c.lookup.ensures.cause.no_less);
 }

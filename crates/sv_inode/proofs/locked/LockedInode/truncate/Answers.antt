@@ -21,7 +21,8 @@ overflow_cast-len g c = omega (arith, c.len.ensures, len-is c.in_ok-blocks.block
 
 pub cut_all-requires-clause-blocks : goal.cut_all-requires-clause-blocks
 cut_all-requires-clause-blocks g c κs within =
-    blocks-after c.in_ok-blocks.ensures.origin c.in_ok-blocks.ensures.held (c.as_slice.ensures.value ∙ c.in_ok-blocks.ensures.blocks)
+    blocks-after c.in_ok-blocks.ensures.stake.home c.in_ok-blocks.ensures.stake.lines
+    (c.as_slice.ensures.value ∙ c.in_ok-blocks.ensures.blocks)
     (tree-blocks c.requires.tree.tree c.requires.tree.in_data)
 
 pub free_all-requires-clause-cuts : goal.free_all-requires-clause-cuts
@@ -29,7 +30,8 @@ free_all-requires-clause-cuts g c κs within = (
   g.S.Stake.held c.args.self.now.stake,
   can-free c.in_ok-cuts.cuts.items c.in_ok-cuts.ensures.cuts (tree-blocks c.requires.tree.tree c.requires.tree.in_data)
       (c.in_ok-cuts.ensures.names ∙ (c.as_slice.ensures.value ∙ c.in_ok-blocks.ensures.blocks)) c.requires.apart
-      c.in_ok-blocks.ensures.origin (ap g.S.Stake.origin c.in_ok-room.ensures.stake ∙ c.requires.origin) c.in_ok-blocks.ensures.held
+      c.in_ok-blocks.ensures.stake.home (ap g.S.Stake.origin c.in_ok-room.ensures.stake ∙ c.requires.origin)
+      c.in_ok-blocks.ensures.stake.lines
       (ap g.S.Stake.held c.in_ok-room.ensures.stake),
 )
 
@@ -64,7 +66,8 @@ returns-clause-gives g c = record {
     can =
         can-free c.in_ok-cuts.cuts.items c.in_ok-cuts.ensures.cuts (tree-blocks c.requires.tree.tree c.requires.tree.in_data)
         (c.in_ok-cuts.ensures.names ∙ (c.as_slice.ensures.value ∙ c.in_ok-blocks.ensures.blocks)) c.requires.apart
-        c.in_ok-blocks.ensures.origin (ap g.S.Stake.origin c.in_ok-room.ensures.stake ∙ c.requires.origin) c.in_ok-blocks.ensures.held
+        c.in_ok-blocks.ensures.stake.home (ap g.S.Stake.origin c.in_ok-room.ensures.stake ∙ c.requires.origin)
+        c.in_ok-blocks.ensures.stake.lines
         (ap g.S.Stake.held c.in_ok-room.ensures.stake)
 
 pub returns-clause-only : goal.returns-clause-only
@@ -74,14 +77,14 @@ returns-clause-only g c = λ n was. only-emptied _ n
     (c.in_ok-cuts.ensures.names ∙ (c.as_slice.ensures.value ∙ c.in_ok-blocks.ensures.blocks))
     ∙ ap (less_all (blocks_of (g.S.Stake.origin c.args.self.now.stake).sizes
     (g.S.Stake.held c.args.self.now.stake) c.args.self.now.body.addresses))
-    c.in_ok-blocks.ensures.held))
+    c.in_ok-blocks.ensures.stake.lines))
     was
 
 pub returns-clause-stake : goal.returns-clause-stake
 returns-clause-stake g c = record {
   away = c.in_ok-cuts.ensures.lends;
-  as_forced = c.in_ok-cuts.ensures.forced ∙ c.in_ok-blocks.ensures.forced;
-  home = c.in_ok-cuts.ensures.origin ∙ c.in_ok-blocks.ensures.origin;
+  as_forced = c.in_ok-cuts.ensures.forced ∙ c.in_ok-blocks.ensures.stake.as_forced;
+  home = c.in_ok-cuts.ensures.origin ∙ c.in_ok-blocks.ensures.stake.home;
   no_less = omega (arith, c.in_ok-cuts.ensures.faults, c.in_ok-blocks.ensures.cause.no_less);
 }
 
@@ -99,12 +102,12 @@ pub returns-clause-inode : goal.returns-clause-inode
 returns-clause-inode g c =
     inode-left _ (let P : Geometry → Type 0 = IsGeometry in subst P c.geometry-disk.ensures.value c.geometry-disk.ensures.sizes)
     c.requires.inode (tree-blocks c.requires.tree.tree c.requires.tree.in_data)
-    (c.in_ok-cuts.ensures.origin ∙ c.in_ok-blocks.ensures.origin)
+    (c.in_ok-cuts.ensures.origin ∙ c.in_ok-blocks.ensures.stake.home)
     (c.in_ok-cuts.ensures.cuts.left
     ∙ (ap (λ q. less_all q (g.S.Stake.held c.collect.new.s))
     (c.in_ok-cuts.ensures.names ∙ (c.as_slice.ensures.value ∙ c.in_ok-blocks.ensures.blocks))
     ∙ ap (less_all (blocks_of (g.S.Stake.origin c.args.self.now.stake).sizes
-    (g.S.Stake.held c.args.self.now.stake) c.args.self.now.body.addresses)) c.in_ok-blocks.ensures.held))
+    (g.S.Stake.held c.args.self.now.stake) c.args.self.now.body.addresses)) c.in_ok-blocks.ensures.stake.lines))
 
 pub returns-clause-apart : goal.returns-clause-apart
 returns-clause-apart g c = apart-after _ c.requires.apart (returns-clause-gives g c).lines
@@ -112,4 +115,4 @@ returns-clause-apart g c = apart-after _ c.requires.apart (returns-clause-gives 
     ∙ (ap (λ q. less_all q (g.S.Stake.held c.collect.new.s))
     (c.in_ok-cuts.ensures.names ∙ (c.as_slice.ensures.value ∙ c.in_ok-blocks.ensures.blocks))
     ∙ ap (less_all (blocks_of (g.S.Stake.origin c.args.self.now.stake).sizes
-    (g.S.Stake.held c.args.self.now.stake) c.args.self.now.body.addresses)) c.in_ok-blocks.ensures.held))
+    (g.S.Stake.held c.args.self.now.stake) c.args.self.now.body.addresses)) c.in_ok-blocks.ensures.stake.lines))
