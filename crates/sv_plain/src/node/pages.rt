@@ -12,7 +12,7 @@ use std::alloc::Global;
 use sv_form::Bytes;
 
 // The bytes of a page that is there, and none of one that is absent.
-fn present(page: Option<&[u8]>) -> &[u8]
+pub(crate) fn present(page: Option<&[u8]>) -> &[u8]
     ensures { (r : ℕ) → page_byte (option_copied page.entry) r ≡ slice_index result.now r }
 {
     match page {
