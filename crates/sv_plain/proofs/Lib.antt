@@ -51,6 +51,7 @@ pub mod PageAdds
 pub mod PageBytes
 pub mod Places
 pub mod Purged
+pub mod PutBytes
 pub mod RemovedNames
 pub mod RoomNeeds
 pub mod RootWhole

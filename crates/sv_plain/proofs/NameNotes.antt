@@ -1,11 +1,12 @@
 -- What an index of names knows, as places change.
-use Rattle.std.proofs.Common.{◌≡◌, ◌≢◌, ◌≤◌, ◌<◌, ◌+◌, ◌-◌, ◌*◌, ◌/◌, ◌%◌, ◌^◌, ◌==◌, ◌&&◌, ◌||◌, ◌⊎◌, inl, inr, ℕ, zero, suc, Bool, true, false, cond, not, if◌then◌else◌, List, [], ◌∷◌, map, drop, length, length-drop, get_or, Option, Some, None, IfSome, sym, refl, ap, ◌∙◌, arith, subst}
+use Rattle.std.proofs.Common.{◌≡◌, ◌≢◌, ◌≤◌, ◌<◌, ◌+◌, ◌-◌, ◌*◌, ◌/◌, ◌%◌, ◌^◌, ◌==◌, ◌&&◌, ◌||◌, ◌⊎◌, inl, inr, ℕ, zero, suc, Bool, true, false, cond, not, if◌then◌else◌, List, [], ◌∷◌, map, drop, take, slice_index, length, length-drop, get_or, Option, Some, None, IfSome, sym, refl, ap, ◌∙◌, arith, subst}
 use Rattle.std.proofs.lemmas.Bool.{eq-eqb, ne_eqb, false≢true, cases_eq}
 use Rattle.std.proofs.lemmas.Nat.{div-mul-add, mod-mul-add}
 use Rattle.std.proofs.Math.Nat.{div-add-mod, mod-lt, mul_comm, mul_assoc}
 use Rattle.std.proofs.lemmas.Slice.Eq.{bytes_eq-Decides}
 use Rattle.std.proofs.Math.Seq.{drop-cons}
-use Rattle.std.specs.List.{range_with_len}
+use Rattle.std.proofs.lemmas.List.{get_or-drop, get_or-take}
+use Rattle.std.specs.List.{range_with_len, slice_range}
 use Rattle.std.specs.Ordering.{nat_cmp, is_eq, eq_by_cmp}
 use Rattle.std.specs.Cmp.{nat_cmp_total, Equal-is, tied_itself}
 use Rattle.std.specs.BTreeMap as tree
@@ -114,7 +115,7 @@ pub page-begins : (old : NameIndex) (first slots : ℕ) (before after : Option (
 page-begins old first slots before after = λ _. (λ i low. absurd (omega (arith, low)), λ j inode key _ h. h)
 
 pub page-more : (old mid new : NameIndex) (first slots r : ℕ) (before after : Option (List ℕ)) → r < slots
-    → Notes new (first + r) (slot_inode after r) (slot_key after r)
+    → (Notes mid (first + r) (slot_inode before r) (slot_key before r) → Notes new (first + r) (slot_inode after r) (slot_key after r))
     → (Notes mid (first + r) (slot_inode before r) (slot_key before r) → (i inode key : ℕ) → i ≢ first + r → Notes mid i inode key → Notes new i inode key)
     → PageNotes old mid first slots r before after → PageNotes old new first slots (r + 1) before after
 page-more old mid new first slots r before after within put kept so_far = λ was.
@@ -122,7 +123,7 @@ page-more old mid new first slots r before after within put kept so_far = λ was
     let left = (so_far was).1 in
     let here : Notes mid (first + r) (slot_inode before r) (slot_key before r) = left (first + r) _ _ (λ i low e. absurd (omega (arith, low, e))) (was r within) in (
       λ i low. elim (cases_eq i r) [
-        | inl e ↦ subst (λ (n : ℕ). Notes new (first + n) (slot_inode after n) (slot_key after n)) (sym e) put
+        | inl e ↦ subst (λ (n : ℕ). Notes new (first + n) (slot_inode after n) (slot_key after n)) (sym e) (put here)
         | inr other ↦ kept here (first + i) _ _ (λ e. other (omega (arith, e))) (done i (omega (arith, low, other)))
       ],
       λ j inode key apart_all h. kept here j inode key (apart_all r (omega arith)) (left j inode key (λ i low. apart_all i (omega (arith, low))) h),
@@ -242,6 +243,30 @@ module _ (block s : ℕ) (node : Node) (some : 0 < s) (is : block ≡ 16 * s) (j
     λ none. false≢true (sym (ap (λ b. not b) (eq-eqb (entry_inode block node j) 0 (slot-inode ∙ none))) ∙ and_left _ _ e),
     sym slot-key ∙ ap name_key ((bytes_eq-Decides (entry_name block node j) name).0 (and_right _ _ e)),
   )
+
+-- sixteen bytes that are the same are the same entry
+same-at : (xs ys : List ℕ) (a i : ℕ) → take 16 (drop a xs) ≡ take 16 (drop a ys) → i < 16 → slice_index xs (a + i) ≡ slice_index ys (a + i)
+same-at xs ys a i e low =
+    sym (get_or-take 16 (drop a xs) i 0 low ∙ get_or-drop a xs i 0)
+    ∙ ap (λ (l : List ℕ). slice_index l i) e
+    ∙ get_or-take 16 (drop a ys) i 0 low ∙ get_or-drop a ys i 0
+
+pub same-range : (xs ys : List ℕ) (a b : ℕ) → b ≡ a + 16 → slice_range xs a b ≡ slice_range ys a b → (i : ℕ) → i < 16 → slice_index xs (a + i) ≡ slice_index ys (a + i)
+same-range xs ys a b is e i low =
+    let wide : b - a ≡ 16 = omega (arith, is) in
+    same-at xs ys a i (ap (λ n. take n (drop a xs)) (sym wide) ∙ e ∙ ap (λ n. take n (drop a ys)) wide) low
+
+module _ (p q : Option (List ℕ)) (r : ℕ) (same : (i : ℕ) → i < 16 → page_byte p (16 * r + i) ≡ page_byte q (16 * r + i)) where
+  pub same-inode : slot_inode p r ≡ slot_inode q r
+  unfolding slot_inode
+  same-inode =
+      let at : 16 * r ≡ 16 * r + 0 = omega arith in
+      (λ i. (ap (page_byte p) at ∙ same 0 (omega arith) ∙ ap (page_byte q) (sym at)) i + 256 * same 1 (omega arith) i)
+
+  pub same-key : slot_key p r ≡ slot_key q r
+  unfolding slot_key
+  same-key = ap name_key (map_alike (page_byte p) (page_byte q) (16 * r + 2) (16 * r + 2) 14
+      (λ c low. let at : 16 * r + 2 + c ≡ 16 * r + (2 + c) = omega arith in ap (page_byte p) at ∙ same (2 + c) (omega (arith, low)) ∙ ap (page_byte q) (sym at)))
 
 -- sixteen bytes an entry
 pub whole_entries : (block : ℕ) → block % 16 ≡ 0 → block ≡ 16 * (block / 16)

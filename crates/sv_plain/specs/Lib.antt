@@ -14,6 +14,7 @@ pub mod NameIndex
 pub mod Names
 pub mod Needs
 pub mod NeedsWithin
+pub mod PutOver
 pub mod Shares
 pub mod Step
 pub mod Taken

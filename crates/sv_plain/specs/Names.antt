@@ -37,9 +37,6 @@ is_open_to_names fs d = is_directory fs d && not (links_of fs d == 0)
 abbrev pub child : Fs → ℕ → List ℕ → Option ℕ
 child fs d name = option_and_then (λ node. child_of fs.block node name) (map.get fs.nodes d)
 
-abbrev pub has_child : Fs → ℕ → List ℕ → ℕ → Bool
-has_child fs d name i = some_and (child fs d name) (λ c. c == i)
-
 -- names can be looked up in d, and this one leads nowhere
 abbrev pub is_missing : Fs → ℕ → List ℕ → Bool
 is_missing fs d name = is_open_to_names fs d && not (is_some (child fs d name))

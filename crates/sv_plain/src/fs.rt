@@ -2,7 +2,7 @@
 ghost use Rattle.std.specs.Prelude.{◌≡◌, ◌≤◌, IfOk, OnOk, OnErr, IsSome, None, length, option_copied};
 ghost use Rattle.std.specs.FinMap as map;
 ghost use Rattle.sv_form.specs.Geometry.{IsGeometry};
-ghost use Rattle.sv_plain.specs.Fs.{empty_fs, with_node, with_page_of, page_of, node_without_pages, free_blocks, free_inodes, greatest_size};
+ghost use Rattle.sv_plain.specs.Fs.{empty_fs, with_node, with_page_of, page_of, node_without_pages, free_blocks, free_inodes};
 ghost use Rattle.sv_plain.specs.Whole.{IsWhole};
 
 mod changes;
@@ -68,7 +68,7 @@ impl Fs {
             promises: NumberMap::new(alloc),
             pending: NumberMap::new(alloc),
             block_size: geometry.block_size,
-            greatest: greatest_size(&geometry),
+            greatest: geometry.greatest_size(),
             data_blocks: geometry.blocks - geometry.first_data,
             inodes: geometry.inode_count(),
             places: 0,
@@ -155,15 +155,4 @@ impl Fs {
         let inodes = self.inodes - 1 - self.nodes.len() as u32;
         (blocks, inodes)
     }
-}
-
-// The greatest size of a file: what ten direct addresses and three levels of indirect blocks reach (Bach, chapter 4.2),
-// and what 31 bits count.
-fn greatest_size(geometry: &Geometry) -> u32
-    requires { IsGeometry geometry.now }
-    ensures { result ≡ greatest_size geometry.now.block_size }
-{
-    let per = u64::from(geometry.block_size / 4);
-    let pages = 10 + per + per * per + per * per * per;
-    (pages * u64::from(geometry.block_size)).min(0x7fff_ffff) as u32
 }

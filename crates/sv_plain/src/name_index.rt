@@ -1,5 +1,5 @@
 // Where the names of a directory stand.
-ghost use Rattle.std.specs.Prelude.{◌≡◌, ◌≢◌, ◌<◌, ◌≤◌, ◌+◌, ◌*◌, ◌/◌, ℕ, List, None, Some, map, option_copied, if◌then◌else◌};
+ghost use Rattle.std.specs.Prelude.{◌≡◌, ◌≢◌, ◌<◌, ◌≤◌, ◌+◌, ◌*◌, ◌/◌, ℕ, List, None, Some, map, option_copied, slice_index, if◌then◌else◌};
 ghost use Rattle.std.specs.Bool.{OnTrue};
 ghost use Rattle.std.specs.List.{range_with_len};
 ghost use Rattle.std.specs.Ordering.{nat_cmp};
@@ -9,7 +9,7 @@ ghost use Rattle.std.specs.FinSet as set;
 ghost use Rattle.sv_form.specs.FileBytes.{page_byte};
 ghost use Rattle.sv_plain.specs.NameIndex.{HasIndex, Notes, covered_after, name_key, slot_inode, slot_key};
 
-use crate::node::byte_of_page;
+use crate::node::{byte_of_page, present};
 use crate::number_set::NumberSet;
 use std::alloc::Global;
 use std::collections::BTreeMap;
@@ -81,6 +81,19 @@ fn slot_of(page: Option<&[u8]>, r: u32) -> Slot
         inode,
         key: key_at(page, at + 2),
     }
+}
+
+// Entry r of both pages is the same sixteen bytes.
+fn is_same(before: &[u8], after: &[u8], r: u32) -> bool
+    requires { r < 64 }
+    ensures { OnTrue result ((i : ℕ) → i < 16 → slice_index before.now (16 * r + i) ≡ slice_index after.now (16 * r + i)) }
+{
+    let at = 16 * r as usize;
+    let end = at + 16;
+    if end > before.len() || end > after.len() {
+        return false;
+    }
+    before[at..end] == after[at..end]
 }
 
 fn covered_after(covered: u32, j: u32) -> u32
@@ -195,6 +208,24 @@ impl NameIndex {
         self.note(j, after)
     }
 
+    // Entry r of the page that begins at place `first` changes, or does not: then nothing is looked up.
+    fn change_entry(&mut self, first: u32, r: u32, before: Option<&[u8]>, after: &[u8]) -> bool
+        requires few { r < 64 }
+        requires fits { first + r < 4294967295 }
+        ensures slots { OnTrue result (self.new.slots ≡ self.old.slots) }
+        ensures put { OnTrue result (Notes self.old (first + r) (slot_inode (option_copied before.entry) r) (slot_key (option_copied before.entry) r)
+            → Notes self.new (first + r) (slot_inode (Some after.now) r) (slot_key (Some after.now) r)) }
+        ensures kept { OnTrue result (Notes self.old (first + r) (slot_inode (option_copied before.entry) r) (slot_key (option_copied before.entry) r)
+            → (i inode key : ℕ) → i ≢ first + r → Notes self.old i inode key → Notes self.new i inode key) }
+    {
+        if first + r < self.covered {
+            if is_same(present(before), after, r) {
+                return true;
+            }
+        }
+        self.change(first + r, slot_of(before, r), slot_of(Some(after), r))
+    }
+
     // A page comes in place of what stood there. False where the index cannot say so: there is no memory for it, or a name
     // stands twice.
     pub(crate) fn change_page(&mut self, page: u32, before: Option<&[u8]>, after: &[u8]) -> bool
@@ -207,7 +238,7 @@ impl NameIndex {
         }
         let first = page * slots;
         for r in 0..slots {
-            if !self.change(first + r, slot_of(before, r), slot_of(Some(after), r)) {
+            if !self.change_entry(first, r, before, after) {
                 return false;
             }
         }

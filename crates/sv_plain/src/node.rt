@@ -14,6 +14,7 @@ use crate::blocks::put_page_blocks;
 use crate::pages::Pages;
 use crate::{NoMemory, PairSet};
 pub(crate) use entries::byte_of_page;
+pub(crate) use pages::present;
 use std::alloc::Global;
 use std::marker::Model;
 use sv_form::{Bytes, Kind};

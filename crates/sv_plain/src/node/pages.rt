@@ -1,27 +1,47 @@
 // The pages of a node once bytes are put into it.
-ghost use Rattle.std.specs.Prelude.{◌≡◌, ◌<◌, ◌≤◌, ◌+◌, ◌-◌, ◌*◌, ◌/◌, ◌&&◌, IfOk, IsSome, length, nat_le, nat_lt, slice_index, option_copied, if◌then◌else◌};
-ghost use Rattle.std.specs.FinMap as map;
+ghost use Rattle.std.specs.Prelude.{◌≡◌, ◌<◌, ◌≤◌, ◌+◌, ◌*◌, ◌/◌, ℕ, IfOk, IsSome, length, map, slice_index, option_copied};
+ghost use Rattle.std.specs.FinMap as fmap;
+ghost use Rattle.std.specs.List.{range_with_len};
+ghost use Rattle.sv_plain.specs.PutOver.{over};
 ghost use Rattle.sv_plain.specs.Fs.{with_page};
 ghost use Rattle.sv_form.specs.Node.{page_byte};
 ghost use Rattle.sv_form.specs.NodeChanges.{page_after};
 
-use super::entries::byte_of_page;
 use crate::{NoMemory, Node};
 use std::alloc::Global;
 use sv_form::Bytes;
 
-// Byte r of a page that begins at byte `first`, once these bytes were put at `at`. The page is as it was before, or absent.
-fn byte_after(page: Option<&[u8]>, at: u32, bytes: &[u8], first: u32, r: u32) -> u8
-    requires { first + r ≤ 4294967295 }
-    ensures { result ≡ (if nat_le at (first + r) && nat_lt (first + r) (at + length bytes.now) then slice_index bytes.now (first + r - at) else page_byte (option_copied page.entry) r) }
+// The bytes of a page that is there, and none of one that is absent.
+pub(crate) fn present(page: Option<&[u8]>) -> &[u8]
+    ensures { (r : ℕ) → page_byte (option_copied page.entry) r ≡ slice_index result.now r }
 {
-    let k = first + r;
-    if k < at {
-        return byte_of_page(page, r);
+    match page {
+        Some(bytes) => bytes,
+        None => &[],
     }
-    match bytes.get((k - at) as usize) {
-        Some(byte) => *byte,
-        None => byte_of_page(page, r),
+}
+
+// So many bytes of a page.
+fn page_bytes(alloc: Global, block: u32, page: Option<&[u8]>) -> Result<Vec<u8>, NoMemory>
+    ensures { IfOk result (λ bytes. bytes.items ≡ map (page_byte (option_copied page.entry)) (range_with_len 0 block)) }
+{
+    let mut bytes = Vec::new(alloc);
+    bytes.extend_from_slice(present(page))?;
+    bytes.resize(block as usize, 0)?;
+    Ok(bytes)
+}
+
+// Puts those of the bytes into a page that lie in it. It begins at byte `first`, and they at byte `at`.
+fn put_over(page: &mut [u8], first: u32, at: u32, bytes: &[u8])
+    requires { first + length page.old ≤ 4294967295 }
+    ensures len { length page.new ≡ length page.old }
+    ensures bytes { (r : ℕ) → r < length page.old → slice_index page.new r ≡ over page.old first at bytes.now (length bytes.now) r }
+{
+    let end = first + page.len() as u32;
+    let from = (first.saturating_sub(at) as usize).min(bytes.len());
+    let upto = (end.saturating_sub(at) as usize).min(bytes.len());
+    for k in from..upto {
+        page[at as usize + k - first as usize] = bytes[k];
     }
 }
 
@@ -39,18 +59,14 @@ impl Node {
         requires fits { page * block + block ≤ 4294967295 }
         ensures { IfOk result (λ b. b ≡ page_after block self.now at bytes.now page) }
     {
-        let first = page * block;
-        let before = self.page(page);
-        let mut after = Vec::new(alloc);
-        for r in 0..block {
-            after.push(byte_after(before, at, bytes, first, r))?;
-        }
+        let mut after = page_bytes(alloc, block, self.page(page))?;
+        put_over(after.as_mut_slice(), page * block, at, bytes);
         Ok(Bytes::from_vec(after))
     }
 
     // Puts other bytes into a page that is there.
     pub(crate) fn replace_page(&mut self, page: u32, bytes: Bytes)
-        requires { IsSome (map.get self.old.pages page) }
+        requires { IsSome (fmap.get self.old.pages page) }
         ensures { self.new ≡ with_page page bytes self.old }
     {
         let Ok(()) = self.pages.insert(page, bytes) else {
