@@ -19,7 +19,7 @@ use Rattle.sv_cache.proofs.Laws.{changed, changed-same, times-freed}
 use Rattle.sv_cache.proofs.Holder.{named-inside}
 use Rattle.sv_buf.specs.declared.state.State.{State}
 use Rattle.sv_buf.specs.View.{View, Device, Moving, weight, outs, moving_times, lent_times}
-use Rattle.sv_buf.specs.Changes.{moving_view}
+use Rattle.sv_buf.specs.Changes.{calm_view, moving_view}
 use Rattle.sv_buf.specs.Running.{IsMoving, IsSeen, IsRunning}
 use Rattle.sv_buf.specs.Pending.{IsPending}
 use Rattle.sv_buf.proofs.Bytes.{current-as}
@@ -256,3 +256,35 @@ module _ {D : Type 0} where
           (λ u below q. seen-changed s.core h.kept.current h.kept.device (after_release s.core k bytes how.Invalid) h.kept.current h.kept.device h.kept.opening u
           (apart-away s.core h.kept.current k (released (buffer_at s.core k) bytes how.Invalid) (freed s.core.free k how.Invalid) s.core.device u
           (none_out seen s (moving_view k b None v) us h k (omega arith) u below)) q.lines q.device_seen q)
+
+module _ {R D : Type 0} where
+  -- a buffer that was found by its block, lent as it is
+  pub hit-valid : (seen : D → Device) (p : Pass R (State D) View) (s : State D) (c e : Cache D) (v : View) (k b : ℕ) (bytes : List ℕ) → IsPending (IsRunning seen) p s v → v.moving ≡ None → v.device ≡ None → IsCause s.core b (met.Hit k)
+      → c ≡ after_search s.core b (met.Hit k) → e ≡ after_lend c k → IsLawful e → (buffer_at c k).bytes ≡ Some bytes → (buffer_at e k).valid ≡ true → IsPending (IsRunning seen) p (record s { core = e }) (moving_view k b (Some bytes) (calm_view v))
+  hit-valid seen p s c e v k b bytes pending calm home cause searched lent lawful has valid =
+      pending-step (IsRunning seen) p s (record s { core = e }) v (moving_view k b (Some bytes) (calm_view v)) pending (λ others h.
+      subst (λ o. IsRunning seen (record s { core = e }) (record (moving_view k b (Some bytes) v) { device = o } ∷ others)) home
+      (hits_lent seen s c e v others h k b (Some bytes) calm cause searched lent lawful (valid, has) tt))
+
+  -- the same, to be read
+  pub hit-invalid : (seen : D → Device) (p : Pass R (State D) View) (s : State D) (c e : Cache D) (v : View) (k b : ℕ) → IsPending (IsRunning seen) p s v → v.moving ≡ None → IsCause s.core b (met.Hit k)
+      → c ≡ after_search s.core b (met.Hit k) → e ≡ after_lend c k → IsLawful e → (buffer_at e k).valid ≡ false → IsPending (IsRunning seen) p (record s { core = e }) (moving_view k b None v)
+  hit-invalid seen p s c e v k b pending calm cause searched lent lawful valid =
+      pending-step (IsRunning seen) p s (record s { core = e }) v (moving_view k b None v) pending (λ others h. hits_lent seen s c e v others h k b None calm cause searched lent lawful tt valid)
+
+  -- a buffer that was taken for the block, to be read
+  pub taken-invalid : (seen : D → Device) (p : Pass R (State D) View) (s : State D) (c e : Cache D) (v : View) (k b : ℕ) → IsPending (IsRunning seen) p s v → v.moving ≡ None → 0 < weight v → b < v.opening.sizes.blocks → IsCause s.core b (met.Taken k)
+      → c ≡ after_search s.core b (met.Taken k) → e ≡ after_lend c k → IsLawful e → IsPending (IsRunning seen) p (record s { core = e }) (moving_view k b None v)
+  taken-invalid seen p s c e v k b pending calm some low cause searched lent lawful =
+      pending-step (IsRunning seen) p s (record s { core = e }) v (moving_view k b None v) pending (λ others h. takes_lent seen s c e v others h k b calm some low cause searched lent lawful)
+
+  -- a buffer that is queued for the worker
+  pub asked : (seen : D → Device) (p : Pass R (State D) View) (s : State D) (c : Cache D) (t : State D) (v : View) (k b : ℕ) → IsPending (IsRunning seen) p s v → IsCause s.core b (met.Delayed k) → c ≡ after_search s.core b (met.Delayed k) → IsLawful c
+      → t ≡ record s { core = c; requests = record s.requests { waiting = s.requests.waiting ++ k ∷ [] } } → IsPending (IsRunning seen) p t v
+  asked seen p s c t v k b pending cause searched lawful is =
+      subst (λ q. IsPending (IsRunning seen) p q v) (sym is)
+      (pending-step (IsRunning seen) p s (record s { core = c; requests = record s.requests { waiting = s.requests.waiting ++ k ∷ [] } }) v v pending (λ others h. queues seen s c v others h k b (s.requests.waiting ++ k ∷ []) cause searched lawful refl))
+
+-- a search that changed nothing
+pub same_core : {D : Type 0} (seen : D → Device) (s : State D) (e : Cache D) (ws : List View) → e ≡ s.core → IsRunning seen s ws → IsRunning seen (record s { core = e }) ws
+same_core seen s e ws is h = subst (λ q. IsRunning seen (record s { core = q }) ws) (sym is) h

@@ -1,14 +1,20 @@
 -- A block is read with the device out.
-use Rattle.std.proofs.Common.{◌≡◌, ◌<◌, ℕ, false, List, ◌∷◌, Option, Some, None, is_some, IfSome, refl, sym, ap, ◌∙◌, subst, arith}
+use Rattle.std.proofs.Common.{◌≡◌, ◌+◌, ◌*◌, ◌<◌, ◌≤◌, ℕ, false, List, ◌∷◌, length, slice_range, Option, Some, None, is_some, IfSome, refl, sym, ap, ◌∙◌, subst, arith, inl, inr}
+use Rattle.sv_dev.specs.Causes.{last_count, Rose}
+use Rattle.sv_store.specs.Held.{line_of}
+use Rattle.sv_store.specs.Loan.{Loan}
+use Rattle.sv_store.specs.Calls.{Gets}
+use Rattle.sv_buf.proofs.Lists.{held-current}
 use Rattle.std.proofs.lemmas.List.Sums.{sum_by-cons}
 use Rattle.std.proofs.lemmas.List.Elements.{All-head}
+use Rattle.sv_form.specs.declared.geometry.Geometry.{Geometry}
 use Rattle.sv_form.specs.Image.{block_of}
 use Rattle.sv_links.specs.Arrangement.{one_if}
 use Rattle.sv_cache.specs.Cache.{Cache, is_delayed}
 use Rattle.sv_cache.specs.Lawful.{IsLawful}
 use Rattle.sv_buf.specs.declared.state.State.{State}
-use Rattle.sv_buf.specs.View.{View, Device, weight, devices}
-use Rattle.sv_buf.specs.Changes.{moving_view, device_view}
+use Rattle.sv_buf.specs.View.{View, Device, weight, devices, held_of}
+use Rattle.sv_buf.specs.Changes.{moving_view, device_view, calm_view, failed_view}
 use Rattle.sv_buf.specs.Running.{IsSeen, IsKept, IsRunning}
 use Rattle.sv_buf.proofs.Bytes.{current-as}
 use Rattle.sv_buf.proofs.Steps.{FaultsMove, step, seen-changed}
@@ -132,3 +138,57 @@ module _ {D : Type 0} where
       (λ low. (omega arith, omega arith))
       (record { opened = mine.opened; lent = mine.lent; moves = record { out = mine.moves.out; noted = full; on_device = tt }; device_seen = mine.device_seen; lines = mine.lines })
       (λ u below q. q)
+
+  -- the length of the device that is at home
+  pub home-whole : (seen : D → Device) (s : State D) (w : View) (us : List View) (h : IsRunning seen s (w ∷ us)) (d : D) → 0 < weight w → s.core.device ≡ Some d → length (seen d).content ≡ w.opening.sizes.blocks * w.opening.sizes.block_size
+  home-whole seen s w us h d some at =
+      let mine = All-head (IsSeen s.core h.kept.current h.kept.device h.kept.opening) w us h.each in
+      let sizes : w.opening.sizes ≡ s.core.geometry = ap (λ o. o.sizes) (mine.opened some) ∙ h.kept.same_sizes in
+      ap (λ x. length x.content) (home-is seen s h.kept d at) ∙ (h.kept.bytes.whole ∙ ap (λ g. g.blocks * g.block_size) (sym sizes))
+
+  -- a device that was not at home was not taken out
+  pub not_taken : (seen : D → Device) (s : State D) (e : Cache D) (ws : List View) → s.core.device ≡ None → e ≡ record s.core { device = None } → IsRunning seen s ws → IsRunning seen (record s { core = e }) ws
+  not_taken seen s e ws none is h =
+      let same : e ≡ s.core = is ∙ ap (λ o. record s.core { device = o }) (sym none) in
+      subst (λ q. IsRunning seen (record s { core = q }) ws) (sym same) h
+
+  -- a read that succeeded: the bytes are those of the block, and the device is at home
+  pub read-ok : (seen : D → Device) (s : State D) (e : Cache D) (v w : View) (us : List View) (d : Device) (k b : ℕ) (bytes : List ℕ) (disk : D) → 0 < weight v → w ≡ device_view d (moving_view k b None v) → IsRunning seen s (w ∷ us)
+      → bytes ≡ block_of v.opening.sizes d.content b → (seen disk).content ≡ d.content → d.faults ≤ (seen disk).faults → e ≡ record s.core { device = Some disk } → IsLawful e
+      → IsRunning seen (record s { core = e }) (moving_view k b (Some bytes) (calm_view w) ∷ us)
+  read-ok seen s e v w us d k b bytes disk some is h are content faults after lawful =
+      let q : IsRunning seen s (device_view d (moving_view k b None (calm_view v)) ∷ us) = subst (λ x. IsRunning seen s (x ∷ us)) is h in
+      let r = reads seen s (calm_view v) us d k b bytes some q are in
+      subst (λ x. IsRunning seen (record s { core = e }) (moving_view k b (Some bytes) (calm_view x) ∷ us)) (sym is)
+      (brings seen s e (moving_view k b (Some bytes) (calm_view v)) us d r disk v.faults refl content (λ low. (omega arith, faults)) after lawful)
+
+  -- a read that failed: the fault is counted here
+  pub read-failed : (seen : D → Device) (s : State D) (e : Cache D) (v w : View) (us : List View) (d : Device) (k b : ℕ) (disk : D) → w ≡ device_view d (moving_view k b None v) → IsRunning seen s (w ∷ us)
+      → (seen disk).content ≡ d.content → Rose d.faults (seen disk).faults → e ≡ record s.core { device = Some disk } → IsLawful e
+      → IsRunning seen (record s { core = e }) (moving_view k b None (failed_view (calm_view w)) ∷ us)
+  read-failed seen s e v w us d k b disk is h content rose after lawful =
+      let q : IsRunning seen s (device_view d (moving_view k b None (calm_view v)) ∷ us) = subst (λ x. IsRunning seen s (x ∷ us)) is h in
+      subst (λ x. IsRunning seen (record s { core = e }) (moving_view k b None (failed_view (calm_view x)) ∷ us)) (sym is)
+      (brings seen s e (moving_view k b None (calm_view v)) us d q disk (v.faults + 1) refl content (λ low. moved rose low) after lawful)
+    where
+      moved : Rose d.faults (seen disk).faults → (seen disk).faults < last_count → (d.faults + (v.faults + 1) ≤ (seen disk).faults + v.faults) × (d.faults ≤ (seen disk).faults)
+      moved (inl more) low = (omega arith, omega arith)
+      moved (inr last) low = absurd (omega arith)
+
+  -- what is lent after a search or a read has the held lines
+  pub moving-gets : (seen : D → Device) (s : State D) (v : View) (us : List View) (k b : ℕ) (bytes : List ℕ) (buf : Loan) → 0 < weight v → IsRunning seen s (moving_view k b (Some bytes) (calm_view v) ∷ us) → buf.block ≡ b → buf.bytes ≡ bytes
+      → (id : List ℕ) → Gets (record { id = id; sizes = v.opening.sizes }) (held_of v.lines) b buf
+  moving-gets seen s v us k b bytes buf some h block are id =
+      let mine = All-head (IsSeen s.core h.kept.current h.kept.device h.kept.opening) (moving_view k b (Some bytes) (calm_view v)) us h.each in
+      let sizes : v.opening.sizes ≡ s.core.geometry = ap (λ o. o.sizes) (mine.opened some) ∙ h.kept.same_sizes in
+      let full : buf.bytes ≡ h.kept.current b = are ∙ mine.moves.noted in
+      record {
+        block = block;
+        size = ap length full ∙ (h.kept.bytes.size b (h.kept.bytes.in_range k b mine.moves.out.named) ∙ ap (λ g. g.block_size) (sym sizes));
+        lines = λ l. subst (λ q. IfSome (held_of v.lines b l) (λ y. line_of q l ≡ y)) (sym full) (held-current h.kept.current b l v.lines mine.lines);
+      }
+
+-- a block is so many bytes of the device
+pub block-read : (sizes : Geometry) (content : List ℕ) (b : ℕ) → sizes.block_size ≡ 1024 → slice_range content (b * 1024) (b * 1024 + 1024) ≡ block_of sizes content b
+unfolding block_of
+block-read sizes content b size = ap (λ z. slice_range content (b * z) (b * z + z)) (sym size)

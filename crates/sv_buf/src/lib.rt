@@ -11,6 +11,7 @@ mod get;
 mod give;
 mod leave;
 mod medium;
+mod read;
 mod rule;
 mod stake;
 mod state;

@@ -1,20 +1,22 @@
 // A stake over the cache.
-ghost use Rattle.std.specs.Prelude.{◌≡◌, ◌<◌, ◌^◌};
+ghost use Rattle.std.specs.Prelude.{◌≡◌, ◌<◌, ◌^◌, IfOk, OnErr};
 ghost use Rattle.sv_turn.specs.Passes.{pass_view, IsOut, IsPassOf, first_view};
 ghost use Rattle.std.proofs.Props.{props};
 ghost use Rattle.sv_form.specs.Geometry.{IsGeometry};
-ghost use Rattle.sv_store.specs.Held.{InRange, put, without};
-ghost use Rattle.sv_store.specs.Calls.{CanReturn, CanPut};
+ghost use Rattle.sv_store.specs.Held.{InRange, put, with, without};
+ghost use Rattle.sv_store.specs.Calls.{CanGet, Gets, CanReturn, CanPut};
+ghost use Rattle.sv_store.specs.Causes.{HasFault};
 ghost use Rattle.sv_buf.specs.Running.{IsFit};
 ghost use Rattle.sv_buf.specs.Stake.{pass_held, pass_lent, pass_faults, pass_forced, pass_origin};
 
 use crate::cache::{Cache, CachePass};
+use crate::get::get;
 use crate::give::{take_back, take_put};
 use crate::medium::Medium;
 use crate::rule::Running;
 use std::sync::Wait;
 use sv_form::Geometry;
-use sv_store::Buf;
+use sv_store::{Buf, Refusal};
 use sv_turn::Pass;
 
 /// The right to certain lines of a cache. What a stake holds changes only by its own calls, whatever other threads do.
@@ -36,6 +38,20 @@ impl<'a, D: Medium> CacheStake<'a, D> {
         ensures count { pass_faults self.now.pass < 2 ^ 64 }
     {
         self.cache.sizes
+    }
+
+    /// Lends a block with its bytes (Bach, algorithm bread). Lines that the stake does not hold have any bytes.
+    pub fn bread<R: Wait>(&mut self, rt: &R, b: u32) -> Result<Buf, Refusal>
+        requires { CanGet (pass_held self.old.pass) (pass_lent self.old.pass) b }
+        ensures ok { IfOk result (Gets (pass_origin self.old.pass) (pass_held self.old.pass) b) }
+        ensures lends { IfOk result (λ buf. pass_lent self.new.pass ≡ with b buf.bytes (pass_lent self.old.pass)) }
+        ensures err { OnErr result (pass_lent self.new.pass ≡ pass_lent self.old.pass) }
+        ensures held { pass_held self.new.pass ≡ pass_held self.old.pass }
+        ensures forced { pass_forced self.new.pass ≡ pass_forced self.old.pass }
+        ensures origin { pass_origin self.new.pass ≡ pass_origin self.old.pass }
+        ensures cause { HasFault (pass_faults self.old.pass) (pass_faults self.new.pass) result }
+    {
+        get(rt, &self.cache.turn, &mut self.pass, b)
     }
 
     /// Takes a block back unchanged (Bach, algorithm brelse). It runs no transfer, so no fault is counted.
