@@ -11,4 +11,5 @@ pub mod OnlyFree
 pub mod Samples
 pub mod Sound
 pub mod Supers
+pub mod Taken
 pub mod Writes

@@ -12,7 +12,7 @@ use Rattle.sv_form.specs.declared.superblock.Super.{Super}
 use Rattle.sv_store.specs.Held.{Apart, Both, Held, Lent, Origin, SameLines, chosen, covers, in_ranges, line_of, nothing_lent, of_content, rest}
 use Rattle.sv_store.specs.Calls.{CanPart, Parts}
 use Rattle.sv_store.proofs.Holding.{Apart-Parts, CanPart-range, IsSome-given, IsSome-kept, SameLines-eq, covers-means, is_some-Both, none_from}
-use Rattle.sv_super.specs.Calls.{CanMount, CanMountInodes, Frees, Takes, head_of, is_free, owned_lines}
+use Rattle.sv_super.specs.Calls.{CanMount, CanMountInodes, head_of, is_free, owned_lines}
 use Rattle.sv_super.specs.Core.{Core, HoldsFirst, HoldsOnly, HoldsSuper, NamesSizes, alone, left_of, less, line_alone}
 use Rattle.sv_super.specs.Count.{one_if, sum_below, times}
 use Rattle.sv_super.specs.Inodes.{is_free_inode}
@@ -95,31 +95,6 @@ source-less {o} {o2} {o'} {o2'} {h} {h2} {k} {k2} {part} {m} {m2} b is least lin
 
 pub source-data : {o o' : Origin} {h k : Held} {m : Lent} {n : ℕ} (b : ℕ) → IsSource o h o' k m n → 4 ≤ b → b < 64 → IsDataBlock o.sizes b
 source-data b is least most = record { least = omega (arith, least, ap (λ q. q.first_data) is.sizes); most = omega (arith, most, ap (λ q. q.blocks) is.sizes) }
-
--- ---- how many are left
-
-pub frees-left : {S : Type 0} {old new : Core S} {before now b : ℕ} → Frees before now old new b → left_of new ≡ left_of old + 1
-frees-left {S} {old} {new} {before} {now} {b} (inl chains) =
-    let e = ap length chains.chain in
-    let f = ap length chains.aside in
-    omega arith
-frees-left {S} {old} {new} {before} {now} {b} (inr sets) =
-    let e = ap length sets.chain in
-    let f = ap length sets.aside in
-    let l : length (old.aside ++ b ∷ []) ≡ length old.aside + 1 = length-append old.aside (b ∷ []) in
-    omega arith
-
-pub takes-left : {S : Type 0} {old new : Core S} {b : ℕ} → Takes old new b → left_of new + 1 ≡ left_of old
-takes-left {S} {old} {new} {b} (inl takes) =
-    let e = ap length takes.chain in
-    let f = ap length takes.aside in
-    let l : length (new.aside ++ b ∷ []) ≡ length new.aside + 1 = length-append new.aside (b ∷ []) in
-    omega arith
-takes-left {S} {old} {new} {b} (inr takes) =
-    let e = ap length takes.chain in
-    let f = ap length takes.aside in
-    let n = ap length takes.none in
-    omega arith
 
 -- ---- the core without free blocks
 

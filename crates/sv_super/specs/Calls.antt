@@ -1,12 +1,13 @@
 -- What each call of a core asks, and what it gives.
-use Rattle.std.specs.Prelude.{◌≡◌, ◌≤◌, ◌<◌, ◌-◌, ◌==◌, ◌&&◌, ◌++◌, ◌⊎◌, ℕ, Bool, true, List, [], ◌∷◌, Some, length, replicate, slice_index, nat_le, nat_lt}
+use Rattle.std.specs.Prelude.{◌≡◌, ◌≤◌, ◌<◌, ◌+◌, ◌-◌, ◌==◌, ◌&&◌, ◌++◌, ◌⊎◌, ℕ, Bool, true, false, List, [], ◌∷◌}
+use Rattle.std.specs.Prelude.{Some, length, replicate, slice_index, nat_le, nat_lt}
 use Rattle.sv_dev.specs.Causes.{Rose}
-use Rattle.sv_form.specs.Geometry.{IsNumber, block_lines, inode_place}
+use Rattle.sv_form.specs.Geometry.{IsDataBlock, IsNumber, block_lines, inode_place}
 use Rattle.sv_form.specs.OwnerTable.{OwnerTable, IsOwnerTable}
 use Rattle.sv_form.specs.Owners.{owner_of}
 use Rattle.sv_form.specs.declared.superblock.Super.{Super}
 use Rattle.sv_store.specs.Held.{Held, Lent, Origin, HoldsBlock, nothing_lent, put}
-use Rattle.sv_super.specs.Core.{Core, Head, HoldsInodes, HoldsSuper, line_alone, line_less}
+use Rattle.sv_super.specs.Core.{Core, Head, HoldsInodes, HoldsSuper, alone, less, line_alone, line_less}
 use Rattle.sv_super.specs.Count.{one_if, sum_below, times}
 use Rattle.sv_super.specs.FreeList.{HasList, IsChain, IsNext, after}
 use Rattle.sv_super.specs.Inodes.{Inodes, filled, is_free_inode, without_last}
@@ -60,7 +61,34 @@ pub record TakesChained {S : Type 0} (old new : Core S) (b : ℕ) : Type 0 where
 abbrev pub Takes : {S : Type 0} → Core S → Core S → ℕ → Type 0
 Takes old new b = TakesAside old new b ⊎ TakesChained old new b
 
+-- A free block has gone, with all its lines and no other, to a part: f counts the free blocks, and n how many there are.
+pub record TakesBlock (o : Origin) (f f' : ℕ → ℕ) (n n' : ℕ) (h h' part : Held) (b : ℕ) : Type 0 where
+  pub in_data : IsDataBlock o.sizes b
+  pub each : (c : ℕ) → f c ≡ one_if (b == c) + f' c
+  pub count : n ≡ n' + 1
+  pub mine : h' ≡ less b h
+  pub theirs : part ≡ alone b h
+  pub whole : HoldsBlock o part b
+
+-- A stake that was just cut off one that comes from there: it has lent nothing, counted no fault, and is not forced.
+pub record IsNewPart (from : Origin) (m : Lent) (count : ℕ) (pushed : Bool) (o : Origin) : Type 0 where
+  pub away : m ≡ nothing_lent
+  pub none : count ≡ 0
+  pub unforced : pushed ≡ false
+  pub home : o ≡ from
+
+-- the same blocks are free, in one order, and the same lines are held with the same bytes
+pub record StaysAs {S : Type 0} (held : S → Held) (old new : Core S) : Type 0 where
+  pub lines : held new.stake ≡ held old.stake
+  pub chain : new.chain ≡ old.chain
+  pub aside : new.aside ≡ old.aside
+
 -- ---- a block is freed
+
+-- a block is free besides: f counts the free blocks, and n how many there are
+pub record FreesBlock (f f' : ℕ → ℕ) (n n' b : ℕ) : Type 0 where
+  pub each : (c : ℕ) → f' c ≡ one_if (b == c) + f c
+  pub count : n' ≡ n + 1
 
 -- it becomes the first of the chain
 pub record Chains {S : Type 0} (old new : Core S) (b : ℕ) : Type 0 where

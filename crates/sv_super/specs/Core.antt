@@ -39,6 +39,10 @@ left_of core = length core.chain + length core.aside
 abbrev pub free_times : List ℕ → List ℕ → ℕ → ℕ
 free_times chain aside b = times b chain + times b aside
 
+-- how often a block stands among the free ones of a core
+abbrev pub free_of : {S : Type 0} → Core S → ℕ → ℕ
+free_of core = free_times core.chain core.aside
+
 -- the superblock's eight lines are held
 pub record HoldsSuper (o : Origin) (h : Held) : Type 0 where
   pub at : (l : ℕ) → l < 8 → IsSome (h (super_place o.sizes).block ((super_place o.sizes).line + l))
@@ -74,7 +78,8 @@ pub record HoldsFirst (o : Origin) (h : Held) : Type 0 where
   pub line : h (inode_place o.sizes 1).block (inode_place o.sizes 1).line ≡ Some (replicate 64 0)
 
 -- what is kept of blocks, of inodes, and of the sizes that the superblock names
-pub record IsCore (o : Origin) (h : Held) (m : Lent) (list : List ℕ) (chained : ℕ) (aside : List ℕ) (spare room : ℕ) (used : List Bool) (head : Head) : Type 0 where
+pub record IsCore (o : Origin) (h : Held) (m : Lent) (list : List ℕ) (chained : ℕ) (aside : List ℕ)
+    (spare room : ℕ) (used : List Bool) (head : Head) : Type 0 where
   pub blocks : IsKept o h m list chained aside spare room
   pub inodes : HoldsInodes o h used
   pub first : HoldsFirst o h

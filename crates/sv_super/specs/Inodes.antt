@@ -1,6 +1,7 @@
 -- The free inodes (Bach, chapter 4.6): which inodes are in use, the free ones that are handed out next, and the number up to
 -- which all free ones are known.
-use Rattle.std.specs.Prelude.{◌≡◌, ◌≤◌, ◌<◌, ◌+◌, ◌-◌, ◌==◌, ◌&&◌, ℕ, suc, Bool, true, false, List, [], ◌∷◌, ◌++◌, min, not, length, set, reverse, take, slice_index, slice_index_or, filter, nat_lt, if◌then◌else◌}
+use Rattle.std.specs.Prelude.{◌≡◌, ◌≤◌, ◌<◌, ◌+◌, ◌-◌, ◌==◌, ◌&&◌, ℕ, suc, Bool, true, false, List, [], ◌∷◌, ◌++◌}
+use Rattle.std.specs.Prelude.{min, not, length, set, reverse, take, slice_index, slice_index_or, filter, nat_lt, if◌then◌else◌}
 use Rattle.std.specs.List.{range_with_len}
 use Rattle.sv_super.specs.Count.{one_if, sum_below, times}
 
@@ -30,15 +31,20 @@ past numbers otherwise = if length numbers == 0 then otherwise else slice_index 
 -- an empty cache is filled with a hundred of the smallest free numbers that are not below the remembered one, in descending
 -- order, and the remembered number is then one more than the greatest of them
 unfoldable pub filled : Inodes → Inodes
-filled i = if length i.cached == 0 then (let more = reverse (smallest i.used 100 i.remembered) in record i { cached = more; remembered = past more i.remembered }) else i
+filled i =
+    if length i.cached == 0 then (let more = reverse (smallest i.used 100 i.remembered) in
+    record i { cached = more; remembered = past more i.remembered }) else i
 
 -- the last of the cache is taken out, and is in use
 unfoldable pub without_last : Inodes → Inodes
-without_last i = record i { used = set i.used (slice_index i.cached (length i.cached - 1) - 1) true; cached = take (length i.cached - 1) i.cached }
+without_last i =
+    record i { used = set i.used (slice_index i.cached (length i.cached - 1) - 1) true; cached = take (length i.cached - 1) i.cached }
 
 -- inode n is free again: the last of a cache with room; else it lowers the remembered number
 unfoldable pub with_free : ℕ → Inodes → Inodes
-with_free n i = if nat_lt (length i.cached) 100 then record i { used = set i.used (n - 1) false; cached = i.cached ++ n ∷ [] } else record i { used = set i.used (n - 1) false; remembered = min i.remembered n }
+with_free n i =
+    if nat_lt (length i.cached) 100 then record i { used = set i.used (n - 1) false; cached = i.cached ++ n ∷ [] }
+    else record i { used = set i.used (n - 1) false; remembered = min i.remembered n }
 
 -- Each cached number is free and stands there once, each free number below the remembered one is cached, and `count` is how
 -- many are free.

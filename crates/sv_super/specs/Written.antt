@@ -19,7 +19,14 @@ is_super_line g c l = (c == (super_place g).block) && (nat_le (super_place g).li
 
 -- the superblock with these sizes, this list and these cached inodes
 abbrev pub super_of : Head → List ℕ → List ℕ → Super
-super_of head list cached = record { block_type = head.block_type; first_data = head.first_data; blocks = head.blocks; free = record { items = list }; inodes = record { items = cached } }
+super_of head list cached =
+    record {
+      block_type = head.block_type;
+      first_data = head.first_data;
+      blocks = head.blocks;
+      free = record { items = list };
+      inodes = record { items = cached };
+    }
 
 -- the held superblock has these sizes, the list with which the chain of these blocks begins, and these cached inodes
 pub record IsWritten (g : Geometry) (h : Held) (head : Head) (order cached : List ℕ) : Type 0 where

@@ -5,8 +5,9 @@ ghost use Rattle.sv_form.specs.Geometry.{IsDataBlock};
 ghost use Rattle.sv_form.specs.Superblock.{IsSuper};
 ghost use Rattle.sv_store.specs.Causes.{HasReason};
 ghost use Rattle.sv_store.specs.Held.{Apart, Both, HoldsBlock, SameLines, nothing_lent};
-ghost use Rattle.sv_super.specs.Calls.{CanMount, CanMountInodes, Frees, Takes, TakesAside, TakesChained, head_of, is_free};
-ghost use Rattle.sv_super.specs.Core.{HoldsFirst, HoldsOnly, IsSound, NamesSizes, alone, free_times, left_of, less};
+ghost use Rattle.sv_super.specs.Calls.{CanMount, CanMountInodes, Frees, FreesBlock, head_of, is_free};
+ghost use Rattle.sv_super.specs.Calls.{IsNewPart, StaysAs, Takes, TakesAside, TakesBlock, TakesChained};
+ghost use Rattle.sv_super.specs.Core.{HoldsFirst, HoldsOnly, IsSound, NamesSizes, free_of, left_of};
 ghost use Rattle.sv_super.specs.Count.{one_if};
 ghost use Rattle.sv_super.specs.FreeList.{IsChain};
 ghost use Rattle.sv_super.specs.Written.{IsWritten, super_bytes};
@@ -47,9 +48,17 @@ impl<S: Stake> Model for SuperCore<S> {
 
     ghost Value = { Core S };
 
-    ghost view = { λ c. record { stake = c.stake; chain = taken c.chained (S.held c.stake) c.list.numbers.items; aside = c.aside.items; spare = c.spare; inodes = c.inodes; head = record { block_type = c.block_type; first_data = c.first_data; blocks = c.blocks } } };
+    ghost view = { λ c. record {
+      stake = c.stake;
+      chain = taken c.chained (S.held c.stake) c.list.numbers.items;
+      aside = c.aside.items;
+      spare = c.spare;
+      inodes = c.inodes;
+      head = record { block_type = c.block_type; first_data = c.first_data; blocks = c.blocks };
+    } };
 
-    ghost invariant = { λ c. IsCore (S.origin c.stake) (S.held c.stake) (S.lent c.stake) c.list.numbers.items c.chained c.aside.items c.spare (vec_capacity c.aside) c.inodes.used (record { block_type = c.block_type; first_data = c.first_data; blocks = c.blocks }) };
+    ghost invariant = { λ c. IsCore (S.origin c.stake) (S.held c.stake) (S.lent c.stake) c.list.numbers.items c.chained c.aside.items
+        c.spare (vec_capacity c.aside) c.inodes.used (record { block_type = c.block_type; first_data = c.first_data; blocks = c.blocks }) };
 }
 
 impl<S: Stake> SuperCore<S> {
@@ -65,9 +74,11 @@ impl<S: Stake> SuperCore<S> {
         ensures chain { IfOk result (λ core. IsChain (S.held stake) mounted.now.head.free.items core.chain) }
         ensures aside { IfOk result (λ core. length core.aside ≡ 0) }
         ensures spare { IfOk result (λ core. core.spare ≡ 0) }
-        ensures inodes { IfOk result (λ core. core.inodes ≡ record { used = mounted.now.used.items; cached = mounted.now.head.inodes.items; remembered = 2 }) }
+        ensures inodes { IfOk result (λ core. core.inodes ≡
+            record { used = mounted.now.used.items; cached = mounted.now.head.inodes.items; remembered = 2 }) }
         ensures head { IfOk result (λ core. core.head ≡ head_of mounted.now.head) }
-        ensures written { IfOk result (λ core. IsSuper (super_bytes (S.origin stake).sizes (S.held stake)) mounted.now.head → IsWritten (S.origin stake).sizes (S.held stake) core.head core.chain core.inodes.cached) }
+        ensures written { IfOk result (λ core. IsSuper (super_bytes (S.origin stake).sizes (S.held stake)) mounted.now.head
+            → IsWritten (S.origin stake).sizes (S.held stake) core.head core.chain core.inodes.cached) }
         ensures back { IfErr result (λ refused. refused.0 ≡ stake) }
     {
         let sizes = stake.geometry();
@@ -94,8 +105,8 @@ impl<S: Stake> SuperCore<S> {
     /// line of another data block is held. The superblock names the sizes.
     pub fn left(&self) -> u32
         ensures left { result ≡ left_of self.now }
-        ensures sound { IsSound (S.origin self.now.stake) (S.held self.now.stake) (S.lent self.now.stake) (free_times self.now.chain self.now.aside) }
-        ensures only { HoldsOnly (S.origin self.now.stake) (S.held self.now.stake) (free_times self.now.chain self.now.aside) }
+        ensures sound { IsSound (S.origin self.now.stake) (S.held self.now.stake) (S.lent self.now.stake) (free_of self.now) }
+        ensures only { HoldsOnly (S.origin self.now.stake) (S.held self.now.stake) (free_of self.now) }
         ensures names { NamesSizes (S.origin self.now.stake).sizes self.now.head }
     {
         let _sizes = self.stake.geometry();
@@ -107,17 +118,11 @@ impl<S: Stake> SuperCore<S> {
     pub fn alloc<R: Wait>(&mut self, rt: &R, alloc: Global) -> Result<(u32, S), Refusal>
         requires { 1 ≤ left_of self.old }
         ensures block { IfOk result (λ taken. Takes self.old self.new taken.0) }
-        ensures mine { IfOk result (λ taken. S.held self.new.stake ≡ less taken.0 (S.held self.old.stake)) }
-        ensures theirs { IfOk result (λ taken. S.held taken.1 ≡ alone taken.0 (S.held self.old.stake)) }
-        ensures in_data { IfOk result (λ taken. IsDataBlock (S.origin self.old.stake).sizes taken.0) }
-        ensures whole { IfOk result (λ taken. HoldsBlock (S.origin self.old.stake) (S.held taken.1) taken.0) }
-        ensures part_lent { IfOk result (λ taken. S.lent taken.1 ≡ nothing_lent) }
-        ensures part_faults { IfOk result (λ taken. S.faults taken.1 ≡ 0) }
-        ensures part_forced { IfOk result (λ taken. S.forced taken.1 ≡ false) }
-        ensures part_origin { IfOk result (λ taken. S.origin taken.1 ≡ S.origin self.old.stake) }
-        ensures held { OnErr result (S.held self.new.stake ≡ S.held self.old.stake) }
-        ensures chain { OnErr result (self.new.chain ≡ self.old.chain) }
-        ensures aside { OnErr result (self.new.aside ≡ self.old.aside) }
+        ensures lines { IfOk result (λ taken. TakesBlock (S.origin self.old.stake) (free_of self.old) (free_of self.new)
+            (left_of self.old) (left_of self.new) (S.held self.old.stake) (S.held self.new.stake) (S.held taken.1) taken.0) }
+        ensures part { IfOk result (λ taken. IsNewPart (S.origin self.old.stake)
+            (S.lent taken.1) (S.faults taken.1) (S.forced taken.1) (S.origin taken.1)) }
+        ensures refused { OnErr result (StaysAs S.held self.old self.new) }
         ensures spare { self.new.spare ≡ self.old.spare }
         ensures inodes { self.new.inodes ≡ self.old.inodes }
         ensures head { self.new.head ≡ self.old.head }
@@ -137,17 +142,11 @@ impl<S: Stake> SuperCore<S> {
     fn take_aside(&mut self, alloc: Global) -> Result<(u32, S), Refusal>
         requires { 1 ≤ length self.old.aside }
         ensures block { IfOk result (λ taken. TakesAside self.old self.new taken.0) }
-        ensures mine { IfOk result (λ taken. S.held self.new.stake ≡ less taken.0 (S.held self.old.stake)) }
-        ensures theirs { IfOk result (λ taken. S.held taken.1 ≡ alone taken.0 (S.held self.old.stake)) }
-        ensures in_data { IfOk result (λ taken. IsDataBlock (S.origin self.old.stake).sizes taken.0) }
-        ensures whole { IfOk result (λ taken. HoldsBlock (S.origin self.old.stake) (S.held taken.1) taken.0) }
-        ensures part_lent { IfOk result (λ taken. S.lent taken.1 ≡ nothing_lent) }
-        ensures part_faults { IfOk result (λ taken. S.faults taken.1 ≡ 0) }
-        ensures part_forced { IfOk result (λ taken. S.forced taken.1 ≡ false) }
-        ensures part_origin { IfOk result (λ taken. S.origin taken.1 ≡ S.origin self.old.stake) }
-        ensures held { OnErr result (S.held self.new.stake ≡ S.held self.old.stake) }
-        ensures chain { OnErr result (self.new.chain ≡ self.old.chain) }
-        ensures aside { OnErr result (self.new.aside ≡ self.old.aside) }
+        ensures lines { IfOk result (λ taken. TakesBlock (S.origin self.old.stake) (free_of self.old) (free_of self.new)
+            (left_of self.old) (left_of self.new) (S.held self.old.stake) (S.held self.new.stake) (S.held taken.1) taken.0) }
+        ensures part { IfOk result (λ taken. IsNewPart (S.origin self.old.stake)
+            (S.lent taken.1) (S.faults taken.1) (S.forced taken.1) (S.origin taken.1)) }
+        ensures refused { OnErr result (StaysAs S.held self.old self.new) }
         ensures spare { self.new.spare ≡ self.old.spare }
         ensures inodes { self.new.inodes ≡ self.old.inodes }
         ensures head { self.new.head ≡ self.old.head }
@@ -168,16 +167,11 @@ impl<S: Stake> SuperCore<S> {
     fn take_chained<R: Wait>(&mut self, rt: &R, alloc: Global) -> Result<(u32, S), Refusal>
         requires { 1 ≤ length self.old.chain }
         ensures block { IfOk result (λ taken. self.old.chain ≡ taken.0 ∷ self.new.chain) }
-        ensures mine { IfOk result (λ taken. S.held self.new.stake ≡ less taken.0 (S.held self.old.stake)) }
-        ensures theirs { IfOk result (λ taken. S.held taken.1 ≡ alone taken.0 (S.held self.old.stake)) }
-        ensures in_data { IfOk result (λ taken. IsDataBlock (S.origin self.old.stake).sizes taken.0) }
-        ensures whole { IfOk result (λ taken. HoldsBlock (S.origin self.old.stake) (S.held taken.1) taken.0) }
-        ensures part_lent { IfOk result (λ taken. S.lent taken.1 ≡ nothing_lent) }
-        ensures part_faults { IfOk result (λ taken. S.faults taken.1 ≡ 0) }
-        ensures part_forced { IfOk result (λ taken. S.forced taken.1 ≡ false) }
-        ensures part_origin { IfOk result (λ taken. S.origin taken.1 ≡ S.origin self.old.stake) }
-        ensures held { OnErr result (S.held self.new.stake ≡ S.held self.old.stake) }
-        ensures chain { OnErr result (self.new.chain ≡ self.old.chain) }
+        ensures lines { IfOk result (λ taken. TakesBlock (S.origin self.old.stake) (free_of self.old) (free_of self.new)
+            (left_of self.old) (left_of self.new) (S.held self.old.stake) (S.held self.new.stake) (S.held taken.1) taken.0) }
+        ensures part { IfOk result (λ taken. IsNewPart (S.origin self.old.stake)
+            (S.lent taken.1) (S.faults taken.1) (S.forced taken.1) (S.origin taken.1)) }
+        ensures refused { OnErr result (StaysAs S.held self.old self.new) }
         ensures aside { self.new.aside ≡ self.old.aside }
         ensures spare { self.new.spare ≡ self.old.spare }
         ensures inodes { self.new.inodes ≡ self.old.inodes }
@@ -224,6 +218,7 @@ impl<S: Stake> SuperCore<S> {
         requires lent { S.lent part ≡ nothing_lent }
         requires origin { S.origin part ≡ S.origin self.old.stake }
         ensures block { Frees (counted (S.faults self.old.stake) (S.faults part)) (S.faults self.new.stake) self.old self.new b }
+        ensures set { FreesBlock (free_of self.old) (free_of self.new) (left_of self.old) (left_of self.new) b }
         ensures spare { self.new.spare + 1 ≡ self.old.spare }
         ensures inodes { self.new.inodes ≡ self.old.inodes }
         ensures head { self.new.head ≡ self.old.head }

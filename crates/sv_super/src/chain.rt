@@ -97,7 +97,8 @@ pub(crate) fn next_of<R: Wait, S: Stake>(
 ) -> Result<(u32, LinkBlock), Refusal>
     requires some { 1 ≤ length list.now.numbers.items }
     requires block { HoldsBlock (S.origin s.old) (S.held s.old) (last list.now.numbers.items) }
-    requires link { length list.now.numbers.items ≡ 1 → HasList (S.held s.old (last list.now.numbers.items)) (list_of (S.held s.old (last list.now.numbers.items))) }
+    requires link { length list.now.numbers.items ≡ 1
+        → HasList (S.held s.old (last list.now.numbers.items)) (list_of (S.held s.old (last list.now.numbers.items))) }
     requires lent { S.lent s.old ≡ nothing_lent }
     ensures block { IfOk result (λ next. next.0 ≡ last list.now.numbers.items) }
     ensures list { IfOk result (λ next. next.1.numbers.items ≡ after (S.held s.old) list.now.numbers.items) }

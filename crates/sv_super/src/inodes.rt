@@ -1,5 +1,6 @@
 // The free inodes, without their lines.
-ghost use Rattle.std.specs.Prelude.{◌≡◌, ◌≤◌, ◌<◌, ◌-◌, ◌++◌, ◌∷◌, [], ℕ, true, false, IfOk, IfNone, IfSome, length, slice_get, slice_index, filter};
+ghost use Rattle.std.specs.Prelude.{◌≡◌, ◌≤◌, ◌<◌, ◌-◌, ◌++◌, ◌∷◌, [], ℕ, true, false, IfOk, IfNone, IfSome, length};
+ghost use Rattle.std.specs.Prelude.{slice_get, slice_index, filter};
 ghost use Rattle.sv_super.specs.Count.{one_if, times};
 ghost use Rattle.sv_super.specs.Inodes.{IsCache, filled, free_count, is_free_inode, past, smallest, with_free, without_last};
 

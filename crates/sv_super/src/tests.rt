@@ -1,10 +1,11 @@
 // A core over a stake in memory. Its blocks are freed from the last down, which is how the chain of a new image is made.
-ghost use Rattle.std.specs.Prelude.{◌≡◌, ◌≢◌, ◌≤◌, ◌<◌, ◌+◌, ◌*◌, ◌∷◌, [], ℕ, IfOk, IfErr, OnOk, IsSome, Some, None, length, replicate, slice_index, true};
+ghost use Rattle.std.specs.Prelude.{◌≡◌, ◌≢◌, ◌≤◌, ◌<◌, ◌+◌, ◌*◌, ◌∷◌, [], ℕ, IfOk, IfErr, OnOk, IsSome, Some, None};
+ghost use Rattle.std.specs.Prelude.{length, replicate, slice_index, true};
 ghost use Rattle.std.specs.List.{All};
 ghost use Rattle.sv_form.specs.Geometry.{IsDataBlock};
 ghost use Rattle.sv_store.specs.Held.{Apart, HoldsBlock, nothing_lent};
 ghost use Rattle.sv_super.specs.Calls.{head_of};
-ghost use Rattle.sv_super.specs.Core.{left_of};
+ghost use Rattle.sv_super.specs.Core.{HoldsSuper, left_of};
 ghost use Rattle.sv_super.specs.Sample.{IsSource, sample_sizes};
 
 use crate::SuperCore;
@@ -75,10 +76,12 @@ fn free_one<R: Wait, S: Stake>(
     source: &mut S,
     b: u32,
 ) -> Result<(), Refusal>
-    requires source { IsSource (S.origin core.old.stake) (S.held core.old.stake) (S.origin source.old) (S.held source.old) (S.lent source.old) (b + 1) }
+    requires source { IsSource (S.origin core.old.stake) (S.held core.old.stake)
+        (S.origin source.old) (S.held source.old) (S.lent source.old) (b + 1) }
     requires spare { 1 ≤ core.old.spare }
     requires in_data { 4 ≤ b }
-    ensures source { OnOk result (IsSource (S.origin core.new.stake) (S.held core.new.stake) (S.origin source.new) (S.held source.new) (S.lent source.new) b) }
+    ensures source { OnOk result (IsSource (S.origin core.new.stake) (S.held core.new.stake)
+        (S.origin source.new) (S.held source.new) (S.lent source.new) b) }
     ensures spare { OnOk result (core.new.spare + 1 ≡ core.old.spare) }
     ensures left { OnOk result (left_of core.new ≡ left_of core.old + 1) }
 {
@@ -100,7 +103,8 @@ fn free_all<R: Wait, S: Stake>(
     core: &mut SuperCore<S>,
     source: &mut S,
 ) -> Result<(), Refusal>
-    requires source { IsSource (S.origin core.old.stake) (S.held core.old.stake) (S.origin source.old) (S.held source.old) (S.lent source.old) 64 }
+    requires source { IsSource (S.origin core.old.stake) (S.held core.old.stake)
+        (S.origin source.old) (S.held source.old) (S.lent source.old) 64 }
     ensures left { OnOk result (left_of core.new ≡ left_of core.old + 59) }
 {
     core.room(FREE)?;
@@ -138,7 +142,8 @@ fn three_rows<R: Wait, S: Stake + Drop>(
     core: &mut SuperCore<S>,
     source: &mut S,
 ) -> Result<(u64, u64, u64), Refusal>
-    requires source { IsSource (S.origin core.old.stake) (S.held core.old.stake) (S.origin source.old) (S.held source.old) (S.lent source.old) 64 }
+    requires source { IsSource (S.origin core.old.stake) (S.held core.old.stake)
+        (S.origin source.old) (S.held source.old) (S.lent source.old) 64 }
 {
     free_all(rt, alloc, core, source)?;
     let nine = take(rt, alloc, core, 9)?;
@@ -155,7 +160,8 @@ fn freed_again<R: Wait, S: Stake + Drop>(
     core: &mut SuperCore<S>,
     source: &mut S,
 ) -> Result<(u32, u32, u32, u64), Refusal>
-    requires source { IsSource (S.origin core.old.stake) (S.held core.old.stake) (S.origin source.old) (S.held source.old) (S.lent source.old) 64 }
+    requires source { IsSource (S.origin core.old.stake) (S.held core.old.stake)
+        (S.origin source.old) (S.held source.old) (S.lent source.old) 64 }
 {
     free_all(rt, alloc, core, source)?;
     core.room(1)?;
@@ -177,7 +183,8 @@ fn flushed<R: Wait, S: Stake + Drop>(
     core: &mut SuperCore<S>,
     source: &mut S,
 ) -> Result<(bool, u32, u32, u64), Refusal>
-    requires source { IsSource (S.origin core.old.stake) (S.held core.old.stake) (S.origin source.old) (S.held source.old) (S.lent source.old) 64 }
+    requires source { IsSource (S.origin core.old.stake) (S.held core.old.stake)
+        (S.origin source.old) (S.held source.old) (S.lent source.old) 64 }
 {
     free_all(rt, alloc, core, source)?;
     let before = core.left();
@@ -185,6 +192,50 @@ fn flushed<R: Wait, S: Stake + Drop>(
     let after = core.left();
     let next = take(rt, alloc, core, 2)?;
     Ok((failed, before, after, next))
+}
+
+// Bytes of a block from a place on.
+fn bytes_at(bytes: &[u8], at: usize) -> [u8; 24] {
+    let mut row = [0u8; 24];
+    for (k, to) in row.iter_mut().enumerate() {
+        *to = bytes.get(at.saturating_add(k)).copied().unwrap_or(0);
+    }
+    row
+}
+
+// The begin of the superblock that a stake holds.
+fn super_begin<R: Wait, S: Stake>(rt: &R, stake: &mut S) -> Result<[u8; 24], Refusal>
+    requires lines { HoldsSuper (S.origin stake.old) (S.held stake.old) }
+    requires lent { S.lent stake.old ≡ nothing_lent }
+{
+    let place = stake.geometry().super_place();
+    let buf = stake.bread(rt, place.block)?;
+    let row = bytes_at(buf.bytes(), usize::from(place.line) * 64);
+    stake.brelse(rt, buf);
+    Ok(row)
+}
+
+// All blocks are freed, and the core is flushed.
+fn free_and_flush<R: Wait, S: Stake>(
+    rt: &R,
+    alloc: Global,
+    core: &mut SuperCore<S>,
+    source: &mut S,
+) -> Result<(), Refusal>
+    requires source { IsSource (S.origin core.old.stake) (S.held core.old.stake)
+        (S.origin source.old) (S.held source.old) (S.lent source.old) 64 }
+{
+    free_all(rt, alloc, core, source)?;
+    core.flush(rt)
+}
+
+// Hands back all lines; they have those of the superblock, and nothing is lent.
+fn take_back<S: Stake>(core: SuperCore<S>) -> S
+    ensures lines { HoldsSuper (S.origin result) (S.held result) }
+    ensures lent { S.lent result ≡ nothing_lent }
+{
+    let _left = core.left();
+    core.give_up()
 }
 
 // The number of the next inode.
@@ -204,7 +255,8 @@ fn inode_freed<S: Stake + Drop>(
     core: &mut SuperCore<S>,
     source: &mut S,
 ) -> Result<(u32, Option<u16>, Option<u16>), Refusal>
-    requires source { IsSource (S.origin core.old.stake) (S.held core.old.stake) (S.origin source.old) (S.held source.old) (S.lent source.old) 64 }
+    requires source { IsSource (S.origin core.old.stake) (S.held core.old.stake)
+        (S.origin source.old) (S.held source.old) (S.lent source.old) 64 }
     requires used { core.old.inodes.used ≡ replicate 32 true }
     requires line { S.held source.old 2 2 ≡ Some (replicate 64 0) }
 {
@@ -246,7 +298,8 @@ fn empty_core<S: Stake>(
     requires sizes { (S.origin source.old).sizes ≡ sample_sizes }
     requires first { S.held source.old 2 0 ≡ Some (replicate 64 0) }
     requires line { S.held source.old 2 2 ≡ Some (replicate 64 0) }
-    ensures source { IfOk result (λ made. IfOk made (λ core. IsSource (S.origin core.stake) (S.held core.stake) (S.origin source.new) (S.held source.new) (S.lent source.new) 64)) }
+    ensures source { IfOk result (λ made. IfOk made (λ core. IsSource (S.origin core.stake) (S.held core.stake)
+        (S.origin source.new) (S.held source.new) (S.lent source.new) 64)) }
     ensures used { IfOk result (λ made. IfOk made (λ core. core.inodes.used ≡ replicate 32 true)) }
     ensures line { OnOk result (S.held source.new 2 2 ≡ Some (replicate 64 0)) }
 {
@@ -311,6 +364,20 @@ fn run_flushed<R: Wait>(
     }
 }
 
+fn run_written<R: Wait>(rt: &R, alloc: Global) -> Result<[u8; 24], Refusal> {
+    let mut source = whole_stake(alloc, 0)?;
+    match empty_core(alloc, &mut source)? {
+        Ok(mut core) => {
+            let done = free_and_flush(rt, alloc, &mut core, &mut source);
+            let mut stake = take_back(core);
+            let row = super_begin(rt, &mut stake);
+            done?;
+            row
+        }
+        Err(_) => Err(Refusal::NoMemory),
+    }
+}
+
 fn run_inode(alloc: Global) -> Result<(u32, Option<u16>, Option<u16>), Refusal> {
     let mut source = whole_stake(alloc, 0)?;
     match empty_core(alloc, &mut source)? {
@@ -326,6 +393,17 @@ fn run_inode(alloc: Global) -> Result<(u32, Option<u16>, Option<u16>), Refusal> 
 #[test]
 fn an_inode_that_was_freed_is_handed_out(rt: HostRuntime) -> Result<(), Fail> {
     assert_eq!(rt; run_inode(rt.alloc()), Ok((1, Some(3), None)));
+    Ok(())
+}
+
+// The magic number, block type 2, the first data block 4, 64 blocks, ten free blocks of which the first two are 14 and 13, and no
+// cached inode.
+#[test]
+fn a_flush_spells_the_superblock(rt: HostRuntime) -> Result<(), Fail> {
+    let spelled = [
+        0x53, 0x56, 0x35, 0x46, 2, 0, 4, 0, 64, 0, 0, 0, 10, 0, 0, 0, 14, 0, 0, 0, 13, 0, 0, 0,
+    ];
+    assert_eq!(rt; run_written(&rt, rt.alloc()), Ok(spelled));
     Ok(())
 }
 

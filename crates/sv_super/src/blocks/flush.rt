@@ -2,7 +2,7 @@
 ghost use Rattle.std.specs.Prelude.{◌≡◌, ◌≤◌, ◌+◌, ◌++◌, [], OnOk, OnErr, length};
 ghost use Rattle.sv_store.specs.Causes.{HasFault};
 ghost use Rattle.sv_store.specs.Held.{nothing_lent};
-ghost use Rattle.sv_super.specs.Core.{free_times};
+ghost use Rattle.sv_super.specs.Core.{free_of};
 ghost use Rattle.sv_super.specs.Written.{IsWritten, Rewrites};
 
 use crate::SuperCore;
@@ -18,8 +18,9 @@ impl<S: Stake> SuperCore<S> {
     pub fn flush<R: Wait>(&mut self, rt: &R) -> Result<(), Refusal>
         ensures order { self.new.aside ++ self.new.chain ≡ self.old.aside ++ self.old.chain }
         ensures linked { OnOk result (self.new.aside ≡ []) }
-        ensures written { OnOk result (IsWritten (S.origin self.old.stake).sizes (S.held self.new.stake) self.old.head self.new.chain self.old.inodes.cached) }
-        ensures held { Rewrites (S.origin self.old.stake).sizes (free_times self.old.chain self.old.aside) (S.held self.old.stake) (S.held self.new.stake) }
+        ensures written { OnOk result (IsWritten (S.origin self.old.stake).sizes (S.held self.new.stake)
+            self.old.head self.new.chain self.old.inodes.cached) }
+        ensures held { Rewrites (S.origin self.old.stake).sizes (free_of self.old) (S.held self.old.stake) (S.held self.new.stake) }
         ensures spare { self.new.spare ≡ self.old.spare }
         ensures inodes { self.new.inodes ≡ self.old.inodes }
         ensures head { self.new.head ≡ self.old.head }
@@ -36,7 +37,7 @@ impl<S: Stake> SuperCore<S> {
     fn link_all<R: Wait>(&mut self, rt: &R) -> Result<(), Refusal>
         ensures order { self.new.aside ++ self.new.chain ≡ self.old.aside ++ self.old.chain }
         ensures linked { OnOk result (length self.new.aside ≡ 0) }
-        ensures held { Rewrites (S.origin self.old.stake).sizes (free_times self.old.chain self.old.aside) (S.held self.old.stake) (S.held self.new.stake) }
+        ensures held { Rewrites (S.origin self.old.stake).sizes (free_of self.old) (S.held self.old.stake) (S.held self.new.stake) }
         ensures spare { self.new.spare ≡ self.old.spare }
         ensures inodes { self.new.inodes ≡ self.old.inodes }
         ensures head { self.new.head ≡ self.old.head }
@@ -64,7 +65,7 @@ impl<S: Stake> SuperCore<S> {
         requires { 1 ≤ length self.old.aside }
         ensures order { self.new.aside ++ self.new.chain ≡ self.old.aside ++ self.old.chain }
         ensures linked { OnOk result (length self.new.aside + 1 ≡ length self.old.aside) }
-        ensures held { Rewrites (S.origin self.old.stake).sizes (free_times self.old.chain self.old.aside) (S.held self.old.stake) (S.held self.new.stake) }
+        ensures held { Rewrites (S.origin self.old.stake).sizes (free_of self.old) (S.held self.old.stake) (S.held self.new.stake) }
         ensures spare { self.new.spare ≡ self.old.spare }
         ensures inodes { self.new.inodes ≡ self.old.inodes }
         ensures head { self.new.head ≡ self.old.head }
@@ -86,8 +87,9 @@ impl<S: Stake> SuperCore<S> {
     fn put_super<R: Wait>(&mut self, rt: &R) -> Result<(), Refusal>
         ensures chain { self.new.chain ≡ self.old.chain }
         ensures aside { self.new.aside ≡ self.old.aside }
-        ensures written { OnOk result (IsWritten (S.origin self.old.stake).sizes (S.held self.new.stake) self.old.head self.new.chain self.old.inodes.cached) }
-        ensures held { Rewrites (S.origin self.old.stake).sizes (free_times self.old.chain self.old.aside) (S.held self.old.stake) (S.held self.new.stake) }
+        ensures written { OnOk result (IsWritten (S.origin self.old.stake).sizes (S.held self.new.stake)
+            self.old.head self.new.chain self.old.inodes.cached) }
+        ensures held { Rewrites (S.origin self.old.stake).sizes (free_of self.old) (S.held self.old.stake) (S.held self.new.stake) }
         ensures spare { self.new.spare ≡ self.old.spare }
         ensures inodes { self.new.inodes ≡ self.old.inodes }
         ensures head { self.new.head ≡ self.old.head }

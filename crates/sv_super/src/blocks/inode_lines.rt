@@ -29,7 +29,8 @@ impl<S: Stake> SuperCore<S> {
     /// none is free. A refusal is want of memory, and changes nothing.
     pub fn ialloc(&mut self, alloc: Global) -> Result<Option<(u16, S)>, NoMemory>
         ensures none { IfOk result (λ got. IfNone got ((n : ℕ) → is_free_inode self.old.inodes.used n ≡ false)) }
-        ensures taken { IfOk result (λ got. IfSome got (λ taken. TakesInode (S.origin self.old.stake) (S.held self.old.stake) (S.held self.new.stake) (S.held taken.1) self.old.inodes self.new.inodes taken.0)) }
+        ensures taken { IfOk result (λ got. IfSome got (λ taken. TakesInode (S.origin self.old.stake)
+            (S.held self.old.stake) (S.held self.new.stake) (S.held taken.1) self.old.inodes self.new.inodes taken.0)) }
         ensures part_lent { IfOk result (λ got. IfSome got (λ taken. S.lent taken.1 ≡ nothing_lent)) }
         ensures part_faults { IfOk result (λ got. IfSome got (λ taken. S.faults taken.1 ≡ 0)) }
         ensures part_forced { IfOk result (λ got. IfSome got (λ taken. S.forced taken.1 ≡ false)) }
@@ -62,7 +63,8 @@ impl<S: Stake> SuperCore<S> {
         requires least { 2 ≤ n }
         requires most { n ≤ inode_count (S.origin self.old.stake).sizes }
         requires used { is_free_inode self.old.inodes.used n ≡ false }
-        requires line { S.held part (inode_place (S.origin self.old.stake).sizes n).block (inode_place (S.origin self.old.stake).sizes n).line ≡ Some (replicate 64 0) }
+        requires line { S.held part (inode_place (S.origin self.old.stake).sizes n).block
+            (inode_place (S.origin self.old.stake).sizes n).line ≡ Some (replicate 64 0) }
         requires only { HoldsOnly (S.origin self.old.stake) (S.held part) (λ _. 0) }
         requires apart { Apart (S.held self.old.stake) (S.held part) }
         requires lent { S.lent part ≡ nothing_lent }

@@ -8,13 +8,12 @@ returns-clause-taken g c = record {
   part = c.in_ok-b.part;
   pushed = c.push_cut.ensures.items ∙ ap (λ q. q ++ (c.in_ok-b.b, c.in_ok-b.part) ∷ []) c.in_ok-reserve.ensures.items;
   cut = record {
-    lines = c.in_ok-b.ensures.theirs;
-    away = c.in_ok-b.ensures.part_lent;
-    home = c.in_ok-b.ensures.part_origin;
-    unforced =
-        c.in_ok-b.ensures.part_forced;
-    none = c.in_ok-b.ensures.part_faults;
+    lines = c.in_ok-b.ensures.lines.theirs;
+    away = c.in_ok-b.ensures.part.away;
+    home = c.in_ok-b.ensures.part.home;
+    unforced = c.in_ok-b.ensures.part.unforced;
+    none = c.in_ok-b.ensures.part.none;
   };
   free = c.in_ok-b.ensures.block;
-  left = c.in_ok-b.ensures.mine;
+  left = c.in_ok-b.ensures.lines.mine;
 }

@@ -6,7 +6,8 @@ use Rattle.sv_store.specs.Held.{InRange}
 use Rattle.sv_super.specs.Core.{alone, less}
 use Rattle.sv_store.proofs.Holding.{SameLines-eq}
 use Rattle.sv_super.proofs.OnlyFree.{only-alone}
-use Rattle.sv_super.proofs.Samples.{alone-apart, frees-left, source-less, source-part}
+use Rattle.sv_super.proofs.Samples.{alone-apart, source-less, source-part}
+use Rattle.sv_super.proofs.Taken.{frees-left}
 use Rattle.sv_super.proofs.Writes.{cut-apart, holds-alone}
 use Rattle.sv_super.proofs.tests.free_one.Goals as goal
 

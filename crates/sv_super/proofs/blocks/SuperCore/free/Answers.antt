@@ -5,6 +5,7 @@ use Rattle.sv_store.specs.Held.{Both}
 use Rattle.sv_super.proofs.FirstLine.{first-joined, names-home}
 use Rattle.sv_super.proofs.InodeLines.{inodes-joined}
 use Rattle.sv_super.proofs.Sound.{IsReady, Joined, held-more, joined-linked, joined-same, kept-aside_more, kept-few, kept-linked, kept-spelled, pushed, ready}
+use Rattle.sv_super.proofs.Taken.{frees-block}
 use Rattle.sv_super.proofs.blocks.SuperCore.free.Goals as goal
 
 pub link-requires-clause-block : goal.link-requires-clause-block
@@ -69,6 +70,9 @@ returns-in-Ok-clause-block g c = inl (record {
     joined : Joined (g.S.Stake.held c.self.inside.stake) (g.S.Stake.held c.args.part) (g.S.Stake.held c.link.new.s) c.args.b
     joined = joined-linked _ _ _ c.args.b c.merge.ensures.held c.in-Ok.ensures.ok
 
+pub returns-in-Ok-clause-set : goal.returns-in-Ok-clause-set
+returns-in-Ok-clause-set g c = frees-block (returns-in-Ok-clause-block g c)
+
 pub returns-in-Ok-clause-lines : goal.returns-in-Ok-clause-lines
 returns-in-Ok-clause-lines g c =
     (joined-linked _ _ _ c.args.b (c.merge.ensures.held ∙ ap (λ v. Both (g.S.Stake.held v.stake) (g.S.Stake.held c.args.part)) c.self.view_is) c.in-Ok.ensures.ok).lines
@@ -94,3 +98,6 @@ returns-in-Err-clause-block g c = inr (record {
     added =
         pushed c.self.inside.aside.items c.args.b (is_ok c.push-pushed.result)
         (c.push-pushed.ensures.succeeds (omega (arith, c.self.invariant.blocks.fits, c.self.inside.aside.ok.0, c.requires.spare, ap (λ v. v.spare) c.self.view_is))) c.push-pushed.ensures.items
+
+pub returns-in-Err-clause-set : goal.returns-in-Err-clause-set
+returns-in-Err-clause-set g c = frees-block (returns-in-Err-clause-block g c)
