@@ -22,6 +22,7 @@ mod InodeStands
 mod JoinedTimes
 mod NodePages
 mod OwnBlocks
+mod OwnClose
 mod PurgedAtRest
 mod RangeTests
 mod RestedNodes
