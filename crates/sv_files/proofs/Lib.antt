@@ -37,3 +37,4 @@ mod Walked
 mod WalkedDirectories
 mod WalkedNamings
 mod WaysUp
+mod WorkedImage
