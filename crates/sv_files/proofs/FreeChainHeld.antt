@@ -162,7 +162,7 @@ module _ (g : Geometry) (image : List ℕ) where
   good_list before b rest false e = let no : ⊥ = cc e in absurd no
 
   -- a number is met once, is a data block, and was not met before
-  record IsMetOnce (before : ℕ → Bool) (b k : ℕ) : Type 0 where
+  pub record IsMetOnce (before : ℕ → Bool) (b k : ℕ) : Type 0 where
     pub once : k ≤ 1
     pub fresh : before b ≡ true → k ≡ 0
     pub inside : 0 < k → is_data_block g b ≡ true
@@ -455,7 +455,7 @@ module _ (o : Origin) (image : List ℕ) (sizes : IsGeometry o.sizes) (long : le
   abbrev first : List ℕ
   first = free_list image
 
-  abbrev order : List ℕ
+  abbrev pub order : List ℕ
   order = order_from g image g.blocks first
 
   lines : block_lines g ≡ 16
@@ -465,7 +465,7 @@ module _ (o : Origin) (image : List ℕ) (sizes : IsGeometry o.sizes) (long : le
   unfolding chain_flaw chain
   on = record { before = is_among (walked g image); none = chain_holds }
 
-  met : (b : ℕ) → IsMetOnce g image (is_among (walked g image)) b (times b order)
+  pub met : (b : ℕ) → IsMetOnce g image (is_among (walked g image)) b (times b order)
   unfolding chain_flaw chain
   met b =
       subst (λ (k : ℕ). IsMetOnce g image (is_among (walked g image)) b k) (sym (times-order g image b g.blocks first))
@@ -477,7 +477,7 @@ module _ (o : Origin) (image : List ℕ) (sizes : IsGeometry o.sizes) (long : le
     by false e = refl
     by true e = let gone = (met b).fresh e in absurd (omega (arith, some, gone))
 
-  data_in : (b : ℕ) → 0 < times b order → IsDataBlock g b
+  pub data_in : (b : ℕ) → 0 < times b order → IsDataBlock g b
   data_in b some = data_of g b ((met b).inside some)
 
   free-line : (b l : ℕ) → 0 < times b order → l * 64 < g.block_size → h b l ≡ Some (line_of (block_of g image b) l)
@@ -516,9 +516,9 @@ module _ (o : Origin) (image : List ℕ) (sizes : IsGeometry o.sizes) (long : le
       ap (λ (n : ℕ). one_if (nat_lt 0 n)) here))
 
   -- a block that an inode reaches has an owner
-  owner-some : (b : ℕ) → is_among (walked g image) b ≡ true → line_owner g image (record { block = b; line = 0 }) ≢ 0
+  pub owner-some : (b l : ℕ) → is_among (walked g image) b ≡ true → line_owner g image (record { block = b; line = l }) ≢ 0
   unfolding walk used_inodes
-  owner-some b among =
+  owner-some b l among =
       let all = hits-map (λ n. n == b) (λ (m : Met). m.block) (walk g image) in
       let hit = any-hits (λ n. n == b) (map (λ m. m.block) (walk g image)) among in
       let part =
@@ -531,14 +531,14 @@ module _ (o : Origin) (image : List ℕ) (sizes : IsGeometry o.sizes) (long : le
       let some = part.some in
       let u : IsUsedInode g image part.part =
       record { least = low; most = omega (arith, high); used = not_true (is_free (inode_of g image part.part)) part.passes } in
-      let is = owner-is g image sizes none part.part u b (omega (arith, one, some)) 0 in
+      let is = owner-is g image sizes none part.part u b (omega (arith, one, some)) l in
       λ e. absurd (omega (arith, is, e, low))
 
   owned : (b : ℕ) → b < g.blocks → is_among (walked g image) b ≡ true → owned_lines t b ≢ 0
   owned b low among e =
       let at : owner_of t (record { block = b; line = 0 }) ≡ line_owner g image (record { block = b; line = 0 }) =
       owner-at b 0 low (omega (arith, lines)) in
-      let there : owner_of t (record { block = b; line = 0 }) ≢ 0 = λ z. owner-some b among (sym at ∙ z) in
+      let there : owner_of t (record { block = b; line = 0 }) ≢ 0 = λ z. owner-some b 0 among (sym at ∙ z) in
       let flag : nat_lt 0 (owner_of t (record { block = b; line = 0 })) ≡ true = grind (nat_tests, arith, there) in
       let one : one_if (nat_lt 0 (owner_of t (record { block = b; line = 0 }))) ≡ 1 = ap one_if flag in
       let sum =
@@ -572,7 +572,7 @@ module _ (o : Origin) (image : List ℕ) (sizes : IsGeometry o.sizes) (long : le
     by false is rest = rest
 
   -- a data block that is not in the chain is reached
-  reached-if : (b : ℕ) → times b order ≡ 0 → g.first_data ≤ b → b < g.blocks → is_among (walked g image) b ≡ true
+  pub reached-if : (b : ℕ) → times b order ≡ 0 → g.first_data ≤ b → b < g.blocks → is_among (walked g image) b ≡ true
   unfolding lost_flaw chain
   reached-if b gone least most =
       let both : is_among (walked g image ++ chained g image) b ≡ true =
@@ -656,6 +656,12 @@ module _ (o : Origin) (image : List ℕ) (sizes : IsGeometry o.sizes) (long : le
         each = each;
         whole = whole;
       }
+
+  -- the chain is in this order
+  pub mounted-order : (m : Lent) (away : m ≡ nothing_lent) (s : Super) (is : IsSuper (superblock_of image) s)
+      → (can-mount m away s is).order ≡ order
+  unfolding can-mount
+  mounted-order m away s is = refl
 
 pub mounts-blocks : (image : List ℕ) → IsChained image → (t : OwnerTable) → TellsOwners (geometry_of image) image t → (o : Origin)
     → o.sizes ≡ geometry_of image → (h : Held) → HoldsLinesOf (geometry_of image) image 0 h

@@ -52,7 +52,7 @@ module _ (g : Geometry) (image : List ℕ) (sizes : IsGeometry g) (long : length
   is_used k = not (is_free (inode_of g image k))
 
   -- no inode reaches the block of an inode's line
-  unreached : (n k : ℕ) → 1 ≤ n → n ≤ inode_count g → IsUsedInode g image k
+  pub unreached : (n k : ℕ) → 1 ≤ n → n ≤ inode_count g → IsUsedInode g image k
       → list_any (is_at (inode_place g n).block) (reached g image (inode_of g image k)) ≡ false
   unreached n k least most u = by (list_any (is_at (inode_place g n).block) (reached g image (inode_of g image k))) refl where
     by : (t : Bool) → list_any (is_at (inode_place g n).block) (reached g image (inode_of g image k)) ≡ t → t ≡ false
@@ -84,7 +84,7 @@ module _ (g : Geometry) (image : List ℕ) (sizes : IsGeometry g) (long : length
       (list_any (is_at (inode_place g n).block) (reached g image (inode_of g image k))) (not_there n k least low free is)
       (unreached n k least most (record { least = low; most = omega (arith, high); used = not_true (is_free (inode_of g image k)) is }))))
 
-  within : (n : ℕ) → 1 ≤ n → n ≤ inode_count g → IsPlace g (inode_place g n)
+  pub within : (n : ℕ) → 1 ≤ n → n ≤ inode_count g → IsPlace g (inode_place g n)
   within n least most =
       let block : (inode_place g n).block ≡ (n - 1) / 16 + 2 = ap (λ (s : ℕ). (n - 1) / s + 2) lines in
       let line : (inode_place g n).line ≡ (n - 1) % 16 = ap (λ (s : ℕ). (n - 1) % s) lines in
@@ -195,7 +195,7 @@ in_list used n is =
     ] in
     record { least = least; most = most; flag = flag }
 
-free_again : (used : List Bool) (n : ℕ) → 2 ≤ n → get_or used (n - 1) true ≡ false → is_free_inode used n ≡ true
+pub free_again : (used : List Bool) (n : ℕ) → 2 ≤ n → get_or used (n - 1) true ≡ false → is_free_inode used n ≡ true
 unfolding is_free_inode
 free_again used n least flag =
     let first : nat_lt 1 n ≡ true = grind (arith, least) in

@@ -22,6 +22,7 @@ mod InodeStands
 mod JoinedTimes
 mod NodePages
 mod OwnBlocks
+mod OwnClose
 mod PurgedAtRest
 mod RangeTests
 mod RestedNodes
@@ -36,3 +37,4 @@ mod Walked
 mod WalkedDirectories
 mod WalkedNamings
 mod WaysUp
+mod WorkedImage

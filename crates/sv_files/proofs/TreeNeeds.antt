@@ -4,7 +4,6 @@ use Rattle.std.proofs.Common.{◌∷◌, inl, inr}
 use Rattle.std.proofs.Common.{◌⊎◌, map, take, subst, max, cond, length, nat_le, nat_lt, slice_index, if◌then◌else◌, arith, ap, refl, sym}
 use Rattle.std.proofs.Common.{◌∙◌}
 use Rattle.std.specs.List.{count_by, list_any, range_with_len}
-use Rattle.std.specs.FinMap as fmap
 use Rattle.std.specs.FinSet as set
 use Rattle.std.proofs.lemmas.Bool.{cases_eq, cases_lt, eq-eqb, false≢true, le-ltb, lt-ltb, ne_eqb}
 use Rattle.std.proofs.lemmas.Bool.Decides.{nat_tests}
@@ -18,7 +17,7 @@ use Rattle.sv_form.specs.declared.page_path.PagePath.{PagePath}
 use Rattle.sv_form.specs.declared.page_path.PagePath.TheVariants.{Direct, Single, Double, Triple}
 use Rattle.sv_form.specs.AddressTree.{block_at}
 use Rattle.sv_form.specs.Geometry.{IsGeometry}
-use Rattle.sv_form.specs.Node.{Node, block_set, blocks_at}
+use Rattle.sv_form.specs.Node.{Node, blocks_at}
 use Rattle.sv_form.specs.NodeChanges.{touched}
 use Rattle.sv_form.specs.NodeNeeds.{range_need}
 use Rattle.sv_form.specs.PagePath.{IsPath, IsSpot, block_numbers, greatest_size, height_of, page_limit, page_of, places_of, slot_of}

@@ -6,3 +6,4 @@ pub mod ConversePages
 pub mod ConverseSound
 pub mod FromImage
 pub mod NodeBlocks
+pub mod RoundTrip

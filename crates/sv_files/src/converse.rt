@@ -4,6 +4,7 @@ ghost use Rattle.sv_files.specs.ConverseInodes.{NodesAreWalkedOnce, NodesHaveIno
 ghost use Rattle.sv_files.specs.ConverseLines.{FlushedIsCached, FlushedIsSized};
 ghost use Rattle.sv_files.specs.ConverseSound.{ClosedIsSound};
 ghost use Rattle.sv_files.specs.ConversePages.{NodesArePagedWell, NodesAreTree};
+ghost use Rattle.sv_files.specs.RoundTrip.{SoundIsClosed};
 ghost use Rattle.sv_files.specs.ConverseNames.{NodesAreNamed, PurgedIsAtRest, SoundIsAtRest};
 
 /// An image that has the lines of a file system that was closed is sound, and its tree is the nodes: each node of a whole file
@@ -63,6 +64,13 @@ pub fn nodes_are_named()
 /// pending.
 pub fn sound_is_at_rest()
     ensures law { SoundIsAtRest }
+{}
+
+/// Each sound image is that of a file system that was closed, with its own lines: they are shared out by their owners, each used
+/// inode's part stands for its node, and the rest are those of a flushed core. So what `closed_is_sound` asks can be met, whatever
+/// tree an image has.
+pub fn sound_is_closed()
+    ensures { SoundIsClosed }
 {}
 
 /// After a purge that is done, a whole file system in which no link was pending is at rest: each node has links.

@@ -10,7 +10,8 @@
 //!   tree, from the lines that stand for the nodes.
 //! - `nodes_are_named` gives the conditions 13 to 16 from the nodes of a whole file system at rest.
 //! - `tree_is_used` and `need_is_added` give how many blocks an inode has, and how many a write takes, in terms of the node alone.
-//! - `sound_is_at_rest` says that each sound image meets what this asks, and `purged_is_at_rest` when a file system is at rest.
+//! - `sound_is_closed` and `sound_is_at_rest` say that each sound image meets what this asks, and `purged_is_at_rest` when a file
+//!   system is at rest.
 #![tactic(auto)]
 
 mod converse;
@@ -20,7 +21,7 @@ mod node_blocks;
 pub use converse::{
     closed_is_sound, flushed_is_cached, flushed_is_chained, flushed_is_sized, nodes_are_named,
     nodes_are_paged_well, nodes_are_tree, nodes_are_walked_once, nodes_have_inodes,
-    purged_is_at_rest, sound_is_at_rest,
+    purged_is_at_rest, sound_is_at_rest, sound_is_closed,
 };
 pub use from_image::{free_blocks_mount, free_inodes_mount, inodes_stand_for_nodes};
 pub use node_blocks::{need_is_added, tree_is_used};
