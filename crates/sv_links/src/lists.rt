@@ -1,5 +1,6 @@
 // Many lists over numbers, linked in both directions.
-ghost use Rattle.std.specs.Prelude.{◌≡◌, ◌<◌, ℕ, [], ◌∷◌, ◌++◌, length, map, replicate, slice_get, slice_set, IfOk, MatchOption, Some, None};
+ghost use Rattle.std.specs.Prelude.{◌≡◌, ◌<◌, ℕ, [], ◌∷◌, ◌++◌, length, map, replicate, slice_get, slice_set, IfOk, MatchOption, Some};
+ghost use Rattle.std.specs.Prelude.{None};
 ghost use Rattle.sv_links.specs.Arrangement.{list_at, IsArranged, IsOn, IsOnSome, IsOnNone, without, after};
 ghost use Rattle.sv_links.specs.Way.{next_of, linked, HasPlace};
 

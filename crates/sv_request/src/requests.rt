@@ -37,7 +37,8 @@ impl Requests {
 
     /// Lets a number wait behind all others. A full queue hands it back.
     pub fn push(&mut self, buffer: u32) -> Result<(), u32>
-        ensures room { MatchResult result (λ _. length self.old.waiting < self.old.capacity) (λ _. length self.old.waiting ≡ self.old.capacity) }
+        ensures room { MatchResult result (λ _. length self.old.waiting < self.old.capacity)
+            (λ _. length self.old.waiting ≡ self.old.capacity) }
         ensures pushed { OnOk result (self.new ≡ record self.old { waiting = self.old.waiting ++ buffer ∷ [] }) }
         ensures refused { IfErr result (λ x. (x ≡ buffer) × (self.new ≡ self.old)) }
         ensures within { IsWithin self.new }

@@ -79,5 +79,6 @@ module _ {S V : Type 0} where
     pub small : all ≤ 2 ^ 63
     pub each : (j : ℕ) (d : Doing S V) → get_elem? s.views j ≡ some d → Knows served drawn inside state d.stage
     pub fits : (j : ℕ) (d : Doing S V) → get_elem? s.views j ≡ some d → Fits blank weight d.stage d.client
-    pub apart : (i j : ℕ) (d e : Doing S V) (n : ℕ) → get_elem? s.views i ≡ some d → get_elem? s.views j ≡ some e → HasTicket n d.stage → HasTicket n e.stage → i ≡ j
+    pub apart : (i j : ℕ) (d e : Doing S V) (n : ℕ) → get_elem? s.views i ≡ some d → get_elem? s.views j ≡ some e → HasTicket n d.stage
+        → HasTicket n e.stage → i ≡ j
     pub kept : holds state (map client s.views)
