@@ -22,7 +22,7 @@ use Rattle.sv_form.specs.Superblock.{IsSuper, sizes_of}
 use Rattle.sv_form.proofs.Images.{geometry_of-spelled}
 use Rattle.sv_store.specs.Held.{Apart, Held, Origin, line_of, nothing_lent}
 use Rattle.sv_store.proofs.Lines.{length-line_of}
-use Rattle.sv_super.specs.Calls.{CanMount}
+use Rattle.sv_super.specs.Calls.{CanMount, head_of}
 use Rattle.sv_super.specs.Core as core
 use Rattle.sv_super.specs.Count.{one_if, times}
 use Rattle.sv_super.specs.Inodes.{is_free_inode}
@@ -43,7 +43,7 @@ use Rattle.sv_files.specs.ConverseInodes.{HoldsAllInodes, HoldsInode}
 use Rattle.sv_files.specs.ConverseLines.{HasLines, IsFlushed}
 use Rattle.sv_files.specs.ConverseSound.{IsInTreeOf, IsSharedOut}
 use Rattle.sv_files.specs.FromImage.{HoldsLinesOf, IsUsedInode, MountsInodes, TellsOwners}
-use Rattle.sv_files.specs.RoundTrip.{IsOwnClose, SoundIsClosed, head_of, owned_by, parts_of}
+use Rattle.sv_files.specs.RoundTrip.{IsOwnClose, SoundIsClosed, owned_by, parts_of}
 use Rattle.sv_files.proofs.FreeChainHeld.{can-mount, data_in, met, mounted-order, order, owner-some, reached-if}
 use Rattle.sv_files.proofs.FreeInodes.{free_again, mounts-inodes, unreached, within}
 use Rattle.sv_files.proofs.HeldBytes.{same_line, super-is}

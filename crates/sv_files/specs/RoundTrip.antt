@@ -6,7 +6,7 @@ use Rattle.sv_form.specs.Image.{block_of, geometry_of, superblock_of}
 use Rattle.sv_form.specs.OwnerTable.{OwnerTable}
 use Rattle.sv_form.specs.Superblock.{IsSuper}
 use Rattle.sv_store.specs.Held.{Held, Origin, line_of}
-use Rattle.sv_super.specs.Core.{Head}
+use Rattle.sv_super.specs.Calls.{head_of}
 use Rattle.sv_check.specs.InodeList.{used_flags}
 use Rattle.sv_check.specs.Loaded.{loaded}
 use Rattle.sv_check.specs.Sound.{IsSound, line_owner}
@@ -25,10 +25,6 @@ owned_by image n = λ b l.
 abbrev pub parts_of : List ℕ → ℕ → Held
 parts_of image zero = λ b l. None
 parts_of image (suc n) = owned_by image (suc n)
-
--- what a superblock says of the sizes
-abbrev pub head_of : Super → Head
-head_of s = record { block_type = s.block_type; first_data = s.first_data; blocks = s.blocks }
 
 -- the image is that of a file system that was closed: its own tree, with its own lines, chain and cache
 pub record IsOwnClose (o : Origin) (image : List ℕ) (s : Super) : Type 0 where
