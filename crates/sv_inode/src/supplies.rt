@@ -1,13 +1,12 @@
 // What a write takes before it puts a byte, so that it needs no memory afterwards.
 ghost use Rattle.std.specs.Prelude.{◌≡◌, ◌≤◌, ◌<◌, ◌+◌, ◌++◌, ◌∷◌, [], ℕ, IfOk, OnOk, OnErr, IsErrOf, length, max, vec_capacity, vec_len};
 ghost use Rattle.std.specs.List.{All};
-ghost use Rattle.sv_dev.specs.Causes.{counted};
 ghost use Rattle.sv_store.specs.Causes.{HasReason};
 ghost use Rattle.sv_store.specs.Held.{nothing_lent};
 ghost use Rattle.sv_super.specs.Core.{IsSound, free_times, left_of};
 ghost use Rattle.sv_super.specs.Count.{times};
 ghost use Rattle.sv_store.specs.declared.refusal.Refusal.TheVariants.{Fault};
-ghost use Rattle.sv_inode.specs.Truncate.{AreBlocks, IsCutFrom, names_of};
+ghost use Rattle.sv_inode.specs.Truncate.{IsCutFrom, names_of};
 ghost use Rattle.sv_inode.specs.Frames.{KeepsCore, KeepsRoom};
 ghost use Rattle.sv_inode.specs.Write.{ComesBack, HasRisen, HasRooms, IsSupplied, TakesCut};
 
