@@ -1,16 +1,12 @@
 -- Writes to a block of which all lines are held.
-use Rattle.std.proofs.Common.{◌≡◌, ◌≢◌, ◌<◌, ◌≤◌, ◌+◌, ◌*◌, ◌==◌, ℕ, Bool, true, false, cond, List, length, get_or, Option, Some, None}
-use Rattle.std.proofs.Common.{IsSome, is_some, option_map, nat_lt, refl, sym, ap, ◌∙◌, subst, arith, ◌/◌, ◌%◌, unwrap_or, [], IfSome}
-use Rattle.std.specs.List.{refill}
-use Rattle.std.proofs.Math.Path.{fun_ext}
-use Rattle.std.proofs.lemmas.Bool.{false≢true}
+use Rattle.std.proofs.Common.{◌≡◌, ◌≢◌, ◌<◌, ◌≤◌, ◌+◌, ◌*◌, ℕ, Bool, true, false, List, get_or, Option, Some, None}
+use Rattle.std.proofs.Common.{IsSome, option_map, nat_lt, refl, ap, ◌∙◌, subst, arith, ◌/◌, ◌%◌, unwrap_or, [], IfSome}
 use Rattle.std.proofs.lemmas.Bool.Decides.{nat_tests}
-use Rattle.std.proofs.lemmas.List.{get_or_past}
 use Rattle.sv_form.specs.Number.{ChangesOnly}
-use Rattle.sv_store.specs.Held.{Held, Lent, Origin, HoldsBlock, line_of, nothing_lent, put, with, without}
-use Rattle.sv_store.specs.Calls.{CanPut, Gets}
+use Rattle.sv_store.specs.Held.{Held, Origin, HoldsBlock, line_of, put}
+use Rattle.sv_store.specs.Calls.{Gets}
 use Rattle.sv_store.specs.Loan.{Loan}
-use Rattle.sv_store.proofs.Holding.{is_some-put, with-at, without-with, put-at, put-line}
+use Rattle.sv_store.proofs.Holding.{put-at, put-line}
 use Rattle.sv_store.proofs.Lines.{line_of-same}
 use Rattle.sv_store.proofs.Puts.{put-put}
 use Rattle.sv_form.specs.Number.{number32}

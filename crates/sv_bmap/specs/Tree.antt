@@ -1,7 +1,6 @@
 -- The address tree of an inode, read out of the held lines (Bach, chapter 4.2): thirteen addresses, and the numbers in the
 -- indirect blocks below the last three of them. A number that is 0 is a hole.
-use Rattle.std.specs.Prelude.{◌≡◌, ◌≢◌, ◌<◌, ◌≤◌, ◌-◌, ◌*◌, ◌/◌, ◌%◌, ◌==◌, ℕ, List, [], ◌∷◌, length, Option, Some, None, slice_index}
-use Rattle.std.specs.Prelude.{unwrap_or, nat_lt, if◌then◌else◌}
+use Rattle.std.specs.Prelude.{◌≡◌, ◌≢◌, ◌-◌, ◌*◌, ◌/◌, ◌%◌, ◌==◌, ℕ, List, [], Option, Some, None, slice_index, unwrap_or, if◌then◌else◌}
 use Rattle.sv_form.specs.Number.{number32}
 use Rattle.sv_form.specs.AddressTree as tree
 use Rattle.sv_form.specs.PagePath.{block_numbers}

@@ -1,9 +1,8 @@
 // One page more: writes of new blocks and of the number that links them.
-ghost use Rattle.std.specs.Prelude.{◌≡◌, ◌≢◌, ◌≤◌, ◌<◌, ◌+◌, ◌-◌, ◌||◌, ℕ, IfOk, IfErr, OnOk, OnErr, length, map, replicate, slice_index};
-ghost use Rattle.std.specs.Prelude.{take};
+ghost use Rattle.std.specs.Prelude.{◌≡◌, ◌≤◌, ◌<◌, ◌+◌, ◌-◌, ◌||◌, ℕ, IfOk, IfErr, OnOk, OnErr, length, map, replicate, slice_index, take};
 ghost use Rattle.std.specs.List.{All, list_any, sum_by};
 ghost use Rattle.sv_dev.specs.Causes.{counted};
-ghost use Rattle.sv_form.specs.PagePath.{IsPage, block_numbers};
+ghost use Rattle.sv_form.specs.PagePath.{IsPage, block_numbers, slots};
 ghost use Rattle.sv_store.specs.Causes.{HasFault};
 ghost use Rattle.sv_store.specs.Frames.{Unchanged};
 ghost use Rattle.sv_store.specs.Held.{HoldsBlock, nothing_lent, put, with};
@@ -158,7 +157,7 @@ fn hang<R: Wait, S: Stake>(
     way: &[usize],
     first: u32,
 ) -> Result<(), Refusal>
-    requires slot { slot < 13 }
+    requires slot { slot < slots }
     requires places { (i : ℕ) → i < length way.now → slice_index way.now i < block_numbers (S.origin s.old).sizes }
     requires blocks { (m : ℕ) → m < length way.now
         → HoldsBlock (S.origin s.old) (S.held s.old) (block_at (S.held s.old) a.old slot (take m way.now)) }

@@ -1,17 +1,17 @@
 -- A stake that holds only the inode's line and the lines of its tree holds no others once bytes were put.
-use Rattle.std.proofs.Common.{◌≡◌, ◌≢◌, ◌<◌, ◌+◌, ◌-◌, ◌++◌, ◌⊎◌, inl, inr, ℕ, Bool, true, false, cond, List, length, take, get_or, map}
+use Rattle.std.proofs.Common.{◌≡◌, ◌≢◌, ◌<◌, ◌+◌, ◌-◌, ◌⊎◌, inl, inr, ℕ, Bool, true, false, cond, List, length, take, get_or, map}
 use Rattle.std.proofs.Common.{nat_lt, Some, IsSome, is_some, Result, Ok, Err, OnOk, OnErr, refl, sym, ap, ◌∙◌, subst, arith}
 use Rattle.std.proofs.lemmas.Bool.{false≢true}
 use Rattle.std.proofs.lemmas.Bool.Decides.{nat_tests}
 use Rattle.sv_form.specs.Geometry.{IsGeometry, inode_place}
-use Rattle.sv_form.specs.PagePath.{IsPage, block_numbers}
+use Rattle.sv_form.specs.PagePath.{IsPage}
 use Rattle.sv_form.specs.declared.geometry.Geometry.{Geometry}
 use Rattle.sv_store.specs.Held.{Both, Held, Lent, Origin, SameLines, put}
 use Rattle.sv_store.proofs.Holding.{is_some-Both}
 use Rattle.sv_super.specs.Count.{times}
 use Rattle.sv_bmap.specs.Attach.{Attaches, page_places, page_slot}
 use Rattle.sv_bmap.specs.Order.{blocks_of}
-use Rattle.sv_bmap.specs.Tree.{IsSpot, IsTree, block_at}
+use Rattle.sv_bmap.specs.Tree.{IsTree, block_at}
 use Rattle.sv_bmap.proofs.Hang.{New, became, front-spot}
 use Rattle.sv_bmap.proofs.Kept.{same-put}
 use Rattle.sv_inode.specs.Contents.{block_of}

@@ -24,7 +24,7 @@ use Rattle.sv_inode.specs.Write.{Uses, page_or_zeros, patched, with_piece, write
 use Rattle.sv_inode.proofs.PageMade.{same-held, uses-none}
 use Rattle.sv_inode.proofs.PieceEnds.{IsPiece, IsReached, first-count, page_count, piece-inside, range-pages, reached-all, reached-page}
 use Rattle.sv_inode.proofs.WrittenNeed.{need-fewer}
-use Rattle.sv_inode.proofs.WrittenNode.{bytes_in, put-begin, put-next, reached-touched}
+use Rattle.sv_inode.proofs.WrittenNode.{bytes_in, put-next, reached-touched}
 use Rattle.sv_inode.proofs.WrittenNode as written
 use Rattle.sv_inode.proofs.WrittenTree.{sized-stands, within-reach}
 

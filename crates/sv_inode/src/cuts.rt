@@ -7,6 +7,7 @@ ghost use Rattle.sv_store.specs.Held.{Both, Held, HoldsBlock, SameLines, nothing
 ghost use Rattle.sv_store.specs.declared.refusal.Refusal.TheVariants.{NoMemory};
 ghost use Rattle.sv_super.specs.Core.{alone, less};
 ghost use Rattle.sv_super.specs.Count.{times};
+ghost use Rattle.sv_inode.specs.Frames.{KeepsCore};
 ghost use Rattle.sv_inode.specs.Truncate.{AreBlocks, CanFreeAll, FreesAll, HoldsOther, IsCut, IsCutFrom, names_of, only};
 
 use std::alloc::{AllocFailed, Global};
@@ -164,14 +165,10 @@ pub(crate) fn free_all<R: Wait, S: Stake>(rt: &R, core: &mut SuperCore<S>, cuts:
     requires cuts { (h : Held) × CanFreeAll S.held S.lent S.origin S.forced (S.origin core.old.stake) h (S.held core.old.stake) cuts.items }
     ensures blocks { FreesAll (S.faults core.old.stake) (S.faults core.new.stake) core.old core.new (names_of cuts.items) }
     ensures spare { core.new.spare + length cuts.items ≡ core.old.spare }
-    ensures inodes { core.new.inodes ≡ core.old.inodes }
-    ensures head { core.new.head ≡ core.old.head }
     ensures lines { (h : Held) → CanFreeAll S.held S.lent S.origin S.forced (S.origin core.old.stake) h (S.held core.old.stake) cuts.items
         → SameLines (S.held core.new.stake) (Both (S.held core.old.stake) (only (names_of cuts.items) h)) }
     ensures others { (c l : ℕ) → times c (names_of cuts.items) ≡ 0 → S.held core.new.stake c l ≡ S.held core.old.stake c l }
-    ensures lends { S.lent core.new.stake ≡ nothing_lent }
-    ensures forced { S.forced core.new.stake ≡ S.forced core.old.stake }
-    ensures origin { S.origin core.new.stake ≡ S.origin core.old.stake }
+    ensures core { KeepsCore S.lent S.origin S.forced S.faults core.old core.new }
     ensures faults { counted (S.faults core.old.stake) (sum_by (λ cut. S.faults cut.1) cuts.items) ≤ S.faults core.new.stake }
 {
     let _left = core.left();

@@ -1,5 +1,5 @@
 // One page of a file is written.
-ghost use Rattle.std.specs.Prelude.{◌≡◌, ◌≢◌, ◌≤◌, ◌<◌, ◌+◌, ◌-◌, ◌⊎◌, ◌++◌, ◌∷◌, [], ℕ, suc, List, OnOk, OnErr, IsSome, IfOk, length};
+ghost use Rattle.std.specs.Prelude.{◌≡◌, ◌≢◌, ◌≤◌, ◌<◌, ◌+◌, ◌-◌, ◌⊎◌, ◌++◌, ◌∷◌, [], ℕ, suc, OnOk, OnErr, length};
 ghost use Rattle.std.specs.Prelude.{replicate, reverse, vec_capacity, vec_len};
 ghost use Rattle.std.specs.List.{All, sum_by};
 ghost use Rattle.std.specs.FinMap as fmap;

@@ -1,5 +1,5 @@
 // A locked inode.
-ghost use Rattle.std.specs.Prelude.{◌≡◌, ◌≤◌, ◌<◌, ◌+◌, ◌-◌, ◌⊎◌, ℕ, IsSome, IfErr, IfOk, OnErr, OnOk, length, max, min, replicate, take};
+ghost use Rattle.std.specs.Prelude.{◌≡◌, ◌≤◌, ◌<◌, ◌+◌, ◌-◌, ◌⊎◌, ℕ, IfErr, IfOk, OnErr, OnOk, length, min, replicate, take};
 ghost use Rattle.sv_form.specs.Node.{Node, bytes_of};
 ghost use Rattle.sv_form.specs.NodeChanges.{emptied, put};
 ghost use Rattle.sv_form.specs.PagePath.{greatest_size, slots};

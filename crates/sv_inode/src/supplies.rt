@@ -1,13 +1,11 @@
 // What a write takes before it puts a byte, so that it needs no memory afterwards.
 ghost use Rattle.std.specs.Prelude.{◌≡◌, ◌≤◌, ◌<◌, ◌+◌, ◌++◌, ◌∷◌, [], ℕ, IfOk, OnOk, OnErr, IsErrOf, length, max, vec_capacity, vec_len};
 ghost use Rattle.std.specs.List.{All};
-ghost use Rattle.sv_dev.specs.Causes.{counted};
 ghost use Rattle.sv_store.specs.Causes.{HasReason};
-ghost use Rattle.sv_store.specs.Held.{nothing_lent};
 ghost use Rattle.sv_super.specs.Core.{IsSound, free_times, left_of};
 ghost use Rattle.sv_super.specs.Count.{times};
 ghost use Rattle.sv_store.specs.declared.refusal.Refusal.TheVariants.{Fault};
-ghost use Rattle.sv_inode.specs.Truncate.{AreBlocks, IsCutFrom, names_of};
+ghost use Rattle.sv_inode.specs.Truncate.{IsCutFrom, names_of};
 ghost use Rattle.sv_inode.specs.Frames.{KeepsCore, KeepsRoom};
 ghost use Rattle.sv_inode.specs.Write.{ComesBack, HasRisen, HasRooms, IsSupplied, TakesCut};
 
@@ -104,11 +102,7 @@ fn take_next<R: Wait, S: Stake>(
     ensures chain { OnErr result (core.new.chain ≡ core.old.chain) }
     ensures aside { OnErr result (core.new.aside ≡ core.old.aside) }
     ensures spare { core.new.spare ≡ core.old.spare }
-    ensures inodes { core.new.inodes ≡ core.old.inodes }
-    ensures head { core.new.head ≡ core.old.head }
-    ensures lends { S.lent core.new.stake ≡ nothing_lent }
-    ensures forced { S.forced core.new.stake ≡ S.forced core.old.stake }
-    ensures origin { S.origin core.new.stake ≡ S.origin core.old.stake }
+    ensures core { KeepsCore S.lent S.origin S.forced S.faults core.old core.new }
     ensures cause { HasReason (S.faults core.old.stake) (S.faults core.new.stake) result }
 {
     let _left = core.left();
@@ -150,11 +144,7 @@ fn take_each<R: Wait, S: Stake>(
     ensures left { left_of core.new + length cuts.new.items ≡ left_of core.old }
     ensures count { OnOk result (length cuts.new.items ≡ count) }
     ensures spare { core.new.spare ≡ core.old.spare }
-    ensures inodes { core.new.inodes ≡ core.old.inodes }
-    ensures head { core.new.head ≡ core.old.head }
-    ensures lends { S.lent core.new.stake ≡ nothing_lent }
-    ensures forced { S.forced core.new.stake ≡ S.forced core.old.stake }
-    ensures origin { S.origin core.new.stake ≡ S.origin core.old.stake }
+    ensures core { KeepsCore S.lent S.origin S.forced S.faults core.old core.new }
     ensures cause { HasReason (S.faults core.old.stake) (S.faults core.new.stake) result }
 {
     let _left = core.left();

@@ -1,15 +1,13 @@
 // Bytes are put into a file, page by page.
-ghost use Rattle.std.specs.Prelude.{◌≡◌, ◌≤◌, ◌<◌, ◌+◌, ◌⊎◌, [], ℕ, IfOk, IfErr, OnOk, OnErr, IsErrOf, IsSome, length, max, take};
-ghost use Rattle.std.specs.Prelude.{vec_capacity};
+ghost use Rattle.std.specs.Prelude.{◌≡◌, ◌≤◌, ◌<◌, ◌+◌, ◌⊎◌, [], ℕ, IfOk, IfErr, OnOk, OnErr, IsErrOf, length, max, take};
 ghost use Rattle.std.specs.List.{All, sum_by};
-ghost use Rattle.sv_dev.specs.Causes.{Rose, counted};
+ghost use Rattle.sv_dev.specs.Causes.{Rose};
 ghost use Rattle.sv_form.specs.Node.{Node};
 ghost use Rattle.sv_form.specs.NodeChanges.{put, touched};
 ghost use Rattle.sv_form.specs.PagePath.{greatest_size};
 ghost use Rattle.sv_store.specs.Held.{Held, nothing_lent};
 ghost use Rattle.sv_store.specs.declared.refusal.Refusal.TheVariants.{Fault};
-ghost use Rattle.sv_super.specs.Core.{free_times, left_of};
-ghost use Rattle.sv_super.specs.Count.{times};
+ghost use Rattle.sv_super.specs.Core.{left_of};
 ghost use Rattle.sv_inode.specs.StandsFor.{StandsFor};
 ghost use Rattle.sv_inode.specs.Frames.{KeepsCore, KeepsFront, KeepsRoom, KeepsStake};
 ghost use Rattle.sv_inode.specs.Truncate.{CanFreeAll, HoldsOnly, names_of};

@@ -1,6 +1,5 @@
 // Tests of bytes that are put into an empty file. The core has the blocks 5 to 63.
-ghost use Rattle.std.specs.Prelude.{◌≡◌, ◌≤◌, ◌+◌, ◌∷◌, [], ℕ, OnOk, IsSome};
-ghost use Rattle.sv_super.specs.Core.{left_of};
+ghost use Rattle.std.specs.Prelude.{◌≡◌, ◌≤◌, ◌+◌, ◌∷◌, [], OnOk, IsSome};
 ghost use Rattle.sv_super.specs.Sample.{IsSource};
 ghost use Rattle.sv_inode.specs.Ready.{IsReady};
 

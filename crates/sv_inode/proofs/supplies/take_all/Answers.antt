@@ -7,7 +7,7 @@ use Rattle.sv_inode.proofs.supplies.take_all.Goals as goal
 pub free_all-requires-clause-cuts : goal.free_all-requires-clause-cuts
 free_all-requires-clause-cuts g c κs within = (
   g.S.Stake.held c.args.core.now.stake,
-  can-return c.in-Err.ensures.origin c.in-Err.ensures.cuts
+  can-return c.in-Err.ensures.core.home c.in-Err.ensures.cuts
       (taken-are c.args.core.now c.take_each.new.core c.in-Err.ensures.sound c.in-Err.ensures.taken),
 )
 
@@ -15,7 +15,7 @@ pub returns-in-Err-clause-back : goal.returns-in-Err-clause-back
 returns-in-Err-clause-back g c =
     comes-back c.in-Err.ensures.cuts c.in-Err.ensures.taken c.free_all.ensures.blocks
     (c.free_all.ensures.lines (g.S.Stake.held c.args.core.now.stake)
-    (can-return c.in-Err.ensures.origin c.in-Err.ensures.cuts
+    (can-return c.in-Err.ensures.core.home c.in-Err.ensures.cuts
     (taken-are c.args.core.now c.take_each.new.core c.in-Err.ensures.sound c.in-Err.ensures.taken)))
     c.free_all.ensures.others
 

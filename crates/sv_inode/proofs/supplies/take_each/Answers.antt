@@ -31,10 +31,10 @@ loop-block-preserved g c = record {
   count = count-more c.in_ok-take_next.ensures.taken ∙ ap (λ q. q + 1) c.loop-block.invariant.count;
   left = omega (arith, takes-left c.in_ok-take_next.ensures.taken.b c.in_ok-take_next.ensures.taken.free, c.loop-block.invariant.left);
   spare = c.in_ok-take_next.ensures.spare ∙ c.loop-block.invariant.spare;
-  inodes = c.in_ok-take_next.ensures.inodes ∙ c.loop-block.invariant.inodes;
-  head = c.in_ok-take_next.ensures.head ∙ c.loop-block.invariant.head;
-  lends = c.in_ok-take_next.ensures.lends;
-  forced = c.in_ok-take_next.ensures.forced ∙ c.loop-block.invariant.forced;
-  origin = c.in_ok-take_next.ensures.origin ∙ c.loop-block.invariant.origin;
+  inodes = c.in_ok-take_next.ensures.core.inodes ∙ c.loop-block.invariant.inodes;
+  head = c.in_ok-take_next.ensures.core.head ∙ c.loop-block.invariant.head;
+  lends = c.in_ok-take_next.ensures.core.away;
+  forced = c.in_ok-take_next.ensures.core.as_forced ∙ c.loop-block.invariant.forced;
+  origin = c.in_ok-take_next.ensures.core.home ∙ c.loop-block.invariant.origin;
   faults = omega (arith, c.loop-block.invariant.faults, c.in_ok-take_next.ensures.cause.no_less);
 }

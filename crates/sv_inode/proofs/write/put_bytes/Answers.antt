@@ -35,14 +35,7 @@ returns-in-Ok-clause-spare g c = record {
 }
 
 pub returns-in-Ok-clause-core : goal.returns-in-Ok-clause-core
-returns-in-Ok-clause-core g c = record {
-  inodes = c.free_all.ensures.inodes;
-  head = c.free_all.ensures.head;
-  away = c.free_all.ensures.lends;
-  as_forced = c.free_all.ensures.forced;
-  home = c.free_all.ensures.origin;
-  no_less = omega (arith, c.free_all.ensures.faults);
-}
+returns-in-Ok-clause-core g c = c.free_all.ensures.core
 
 pub returns-in-Err-clause-spare : goal.returns-in-Err-clause-spare
 returns-in-Err-clause-spare g c = record {
@@ -51,11 +44,4 @@ returns-in-Err-clause-spare g c = record {
 }
 
 pub returns-in-Err-clause-core : goal.returns-in-Err-clause-core
-returns-in-Err-clause-core g c = record {
-  inodes = c.free_all.ensures.inodes;
-  head = c.free_all.ensures.head;
-  away = c.free_all.ensures.lends;
-  as_forced = c.free_all.ensures.forced;
-  home = c.free_all.ensures.origin;
-  no_less = omega (arith, c.free_all.ensures.faults);
-}
+returns-in-Err-clause-core g c = c.free_all.ensures.core

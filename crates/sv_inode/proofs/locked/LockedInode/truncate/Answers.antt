@@ -90,11 +90,11 @@ returns-clause-stake g c = record {
 
 pub returns-clause-core : goal.returns-clause-core
 returns-clause-core g c = record {
-  inodes = c.free_all.ensures.inodes ∙ c.in_ok-room.ensures.inodes;
-  head = c.free_all.ensures.head ∙ c.in_ok-room.ensures.head;
-  away = c.free_all.ensures.lends;
-  as_forced = c.free_all.ensures.forced ∙ ap g.S.Stake.forced c.in_ok-room.ensures.stake;
-  home = c.free_all.ensures.origin ∙ ap g.S.Stake.origin c.in_ok-room.ensures.stake;
+  inodes = c.free_all.ensures.core.inodes ∙ c.in_ok-room.ensures.inodes;
+  head = c.free_all.ensures.core.head ∙ c.in_ok-room.ensures.head;
+  away = c.free_all.ensures.core.away;
+  as_forced = c.free_all.ensures.core.as_forced ∙ ap g.S.Stake.forced c.in_ok-room.ensures.stake;
+  home = c.free_all.ensures.core.home ∙ ap g.S.Stake.origin c.in_ok-room.ensures.stake;
   no_less = omega (arith, c.free_all.ensures.faults, ap g.S.Stake.faults c.in_ok-room.ensures.stake);
 }
 
