@@ -13,14 +13,14 @@ pub enum Op {
     Drop {
         ino: u16,
     },
-    /// Finds a name in a directory, or makes a file or a directory of that name (Bach, chapter 5.7, creat and mknod).
+    /// Finds a name in a directory, or makes a file or a directory of that name (Bach, algorithms creat and mknod).
     Create {
         dir: u16,
         name: Name,
         kind: Kind,
         mode: u16,
     },
-    /// Raises the link count of a file before its new name is entered (Bach, chapter 5.14, link).
+    /// Raises the link count of a file before its new name is entered (Bach, algorithm link).
     AddLink {
         ino: u16,
     },
@@ -34,7 +34,7 @@ pub enum Op {
     SubLink {
         ino: u16,
     },
-    /// Removes a name of a regular file (Bach, chapter 5.15, unlink).
+    /// Removes a name of a regular file (Bach, algorithm unlink).
     Unlink {
         dir: u16,
         name: Name,
@@ -44,40 +44,40 @@ pub enum Op {
         dir: u16,
         name: Name,
     },
-    /// Makes an entry of the file table of a reference (Bach, chapter 5.1, open).
+    /// Makes an entry of the file table of a reference (Bach, algorithm open).
     OpenFile {
         ino: u16,
         mode: Mode,
     },
-    /// Gives one descriptor's share of a file up (Bach, chapter 5.5, close).
+    /// Gives one descriptor's share of a file up (Bach, algorithm close).
     CloseFile {
         file: u16,
     },
-    /// Shares a file with one more descriptor (Bach, chapter 5.12, dup).
+    /// Shares a file with one more descriptor (Bach, algorithm dup).
     DupFile {
         file: u16,
     },
-    /// Reads at most so many bytes from the file's offset (Bach, chapter 5.2, read).
+    /// Reads at most so many bytes from the file's offset (Bach, algorithm read).
     Read {
         file: u16,
         count: u32,
     },
-    /// Writes these bytes at the file's offset (Bach, chapter 5.3, write).
+    /// Writes these bytes at the file's offset (Bach, algorithm write).
     Write {
         file: u16,
         bytes: Bytes,
     },
-    /// Sets the file's offset from its beginning, from where it is, or from its end (Bach, chapter 5.4, lseek).
+    /// Sets the file's offset from its beginning, from where it is, or from its end (Bach, algorithm lseek).
     Seek {
         file: u16,
         offset: i64,
         whence: u8,
     },
-    /// Takes all bytes of a regular file away (Bach, chapter 4.7, free of all blocks).
+    /// Takes all bytes of a regular file away (Bach, chapter 4.7, free, of all blocks).
     Trunc {
         ino: u16,
     },
-    /// Reads what an inode says (Bach, chapter 5.11, stat).
+    /// Reads what an inode says (Bach, algorithm stat).
     Stat {
         ino: u16,
     },
@@ -87,7 +87,7 @@ pub enum Op {
     },
     /// Gives back what is left of the promise.
     Forgo,
-    /// Writes what is delayed (Bach, chapter 5.17, sync).
+    /// Writes what is delayed (Bach, algorithm sync).
     Sync,
     /// At the end, when nothing is in use: removes what no name leads to.
     Purge,
