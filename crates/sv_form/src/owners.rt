@@ -1,9 +1,10 @@
 // Whose the lines of an image are: the inode that each line belongs to.
-ghost use Rattle.std.specs.Prelude.{◌≡◌, ◌≢◌, ◌<◌, ◌+◌, ◌++◌, ◌∷◌, [], ◌==◌, if◌then◌else◌, ◌↔◌, length, slice_index, All, IfOk, OnOk, IsTrue};
+ghost use Rattle.std.specs.Prelude.{◌≡◌, ◌≢◌, ◌≤◌, ◌<◌, ◌+◌, ℕ, ◌++◌, ◌∷◌, [], ◌==◌, if◌then◌else◌, ◌↔◌};
+ghost use Rattle.std.specs.Prelude.{length, slice_index, All, IfOk, OnOk, IsTrue};
 ghost use Rattle.std.specs.List.{flat_map};
 ghost use Rattle.sv_form.specs.Geometry.{IsGeometry, IsPlace, line_count, line_number};
 ghost use Rattle.sv_form.specs.OwnerTable.{IsOwnerTable};
-ghost use Rattle.sv_form.specs.Owners.{AreLinesOf, IsRange, owner_of, range_lines};
+ghost use Rattle.sv_form.specs.Owners.{AreLinesOf, HasMore, IsRange, owner_of, range_lines, ranges_at};
 
 use crate::{Geometry, Place, Super};
 use std::alloc::Global;
@@ -68,7 +69,7 @@ impl Owners {
         self.owner[place.block as usize * lines + place.line as usize]
     }
 
-    /// The lines of an inode.
+    /// The lines of an inode, found among all. Who wants those of many inodes takes `lines_of_all`.
     pub fn lines(&self, alloc: Global, n: u16) -> Result<Vec<LineRange>, NoMemory>
         requires { n ≢ 0 }
         ensures { IfOk result (λ ranges. AreLinesOf self.now n ranges.items) }
@@ -81,6 +82,35 @@ impl Owners {
         ensures { IfOk result (λ ranges. AreLinesOf self.now 0 ranges.items) }
     {
         self.lines_of(alloc, 0)
+    }
+
+    /// The lines of each inode up to this one, found in one pass: place n has those of inode n, and place 0 those without an owner.
+    pub fn lines_of_all(&self, alloc: Global, last: u16) -> Result<Vec<Vec<LineRange>>, NoMemory>
+        ensures count { IfOk result (λ all. length all.items ≡ last + 1) }
+        ensures lines { IfOk result (λ all. (n : ℕ) → n ≤ last → AreLinesOf self.now n (ranges_at all.items n)) }
+    {
+        let mut all = no_lines(alloc, usize::from(last) + 1)?;
+        for line in 0..self.owner.len() {
+            self.add_to_owner(&mut all, line)?;
+        }
+        Ok(all)
+    }
+
+    // Adds a line to the ranges of its owner, where there is a place for them.
+    fn add_to_owner(&self, all: &mut Vec<Vec<LineRange>>, line: usize) -> Result<(), NoMemory>
+        requires line { line < length self.now.owners }
+        requires ranges { (n : ℕ) → n < length all.old.items → All (IsRange self.now.geometry) (ranges_at all.old.items n) }
+        ensures count { length all.new.items ≡ length all.old.items }
+        ensures lines { OnOk result ((n : ℕ) → n < length all.old.items
+            → HasMore self.now line n (ranges_at all.old.items n) (ranges_at all.new.items n)) }
+    {
+        let n = usize::from(self.owner[line]);
+        if n >= all.len() {
+            return Ok(());
+        }
+        let place = place_at(&self.geometry, line);
+        add_line(&self.geometry, &mut all[n], place)?;
+        Ok(())
     }
 
     fn lines_of(&self, alloc: Global, n: u16) -> Result<Vec<LineRange>, NoMemory>
@@ -104,13 +134,35 @@ impl Owners {
         if self.owner[line] != n {
             return Ok(());
         }
-        let lines = self.geometry.block_lines() as usize;
-        let place = Place {
-            block: (line / lines) as u32,
-            line: (line % lines) as u8,
-        };
+        let place = place_at(&self.geometry, line);
         add_line(&self.geometry, ranges, place)
     }
+}
+
+// The place of a line by its number in the image.
+fn place_at(geometry: &Geometry, line: usize) -> Place
+    requires sizes { IsGeometry geometry.now }
+    requires line { line < line_count geometry.now }
+    ensures place { IsPlace geometry.now result }
+    ensures number { line_number geometry.now result ≡ line }
+{
+    let lines = geometry.block_lines() as usize;
+    Place {
+        block: (line / lines) as u32,
+        line: (line % lines) as u8,
+    }
+}
+
+// So many lists without a range.
+fn no_lines(alloc: Global, count: usize) -> Result<Vec<Vec<LineRange>>, NoMemory>
+    ensures count { IfOk result (λ all. length all.items ≡ count) }
+    ensures none { IfOk result (λ all. (n : ℕ) → ranges_at all.items n ≡ []) }
+{
+    let mut all = Vec::new(alloc);
+    for _place in 0..count {
+        all.push(Vec::new(alloc))?;
+    }
+    Ok(all)
 }
 
 impl LineRange {

@@ -267,6 +267,28 @@ fn owners(alloc: Global) -> Result<Owners, NoMemory> {
 }
 
 #[test]
+fn lines_of_all_inodes(rt: HostRuntime) -> Result<(), Fail> {
+    let alloc = rt.alloc();
+    let owners = owners(alloc)?;
+    let all = owners.lines_of_all(alloc, 3)?;
+    let free = [
+        range(0, 0, 16),
+        range(1, 0, 16),
+        range(2, 0, 1),
+        range(2, 2, 14),
+    ];
+    assert_eq!(rt; all.len(), 4);
+    for (n, ranges) in all.as_slice().iter().enumerate() {
+        match n {
+            0 => assert!(rt; ranges.as_slice() == free.as_slice()),
+            2 => assert!(rt; ranges.as_slice() == [range(2, 1, 1), range(3, 0, 16)].as_slice()),
+            _ => assert!(rt; ranges.is_empty()),
+        }
+    }
+    Ok(())
+}
+
+#[test]
 fn owned_lines(rt: HostRuntime) -> Result<(), Fail> {
     let alloc = rt.alloc();
     let owners = owners(alloc)?;
