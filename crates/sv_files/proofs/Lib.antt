@@ -38,3 +38,4 @@ mod WalkedDirectories
 mod WalkedNamings
 mod WaysUp
 mod WorkedImage
+mod WorkedLaws

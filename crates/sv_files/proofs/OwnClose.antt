@@ -181,7 +181,7 @@ module _ (image : List ℕ) where
         (let o = held-own n b l (some_of (owned_by image n b l) line e) in same_lines line (line_of (block_of g image b) l) (sym e ∙ o.is));
   }
 
-  holds : (n : ℕ) → HoldsLinesOf g image n (owned_by image n)
+  pub holds : (n : ℕ) → HoldsLinesOf g image n (owned_by image n)
   holds n = record { own = λ b l place owner. own-held n b l place owner }
 
   part-lines : (n : ℕ) → HasLines g image (parts_of image n)

@@ -60,11 +60,11 @@ superblock =
     ++ filled_to 200 (flat_map (λ k. four (14 - k)) (range_with_len 0 8)) ++ flat_map (λ k. two (32 - k)) (range_with_len 0 28))
 
 -- `hello` and a newline
-abbrev hello : List ℕ
+abbrev pub hello : List ℕ
 hello = 104 ∷ 101 ∷ 108 ∷ 108 ∷ 111 ∷ 10 ∷ []
 
 -- block 14 has fifty numbers: 0, and then 63 down to 15
-abbrev worked : List ℕ
+abbrev pub worked : List ℕ
 worked =
     replicate 512 0 ++ superblock ++ replicate 1024 0
     ++ filled_to 2048 (replicate 64 0 ++ inode 0x41ed 3 48 4 ++ inode 0x41ed 2 48 5 ++ inode 0x81a4 1 6 6)
@@ -72,15 +72,15 @@ worked =
     ++ block (entry 3 (46 ∷ []) ++ entry 2 (46 ∷ 46 ∷ []) ++ entry 4 (97 ∷ [])) ++ block hello ++ replicate 7168 0
     ++ block ((50 ∷ 0 ∷ 0 ∷ 0 ∷ []) ++ four 0 ++ flat_map (λ k. four (63 - k)) (range_with_len 0 49)) ++ replicate 50176 0
 
-abbrev sizes : Geometry
+abbrev pub sizes : Geometry
 sizes = record { block_size = 1024; blocks = 64; first_data = 4 }
 
-sizes_are : geometry_of worked ≡ sizes
+pub sizes_are : geometry_of worked ≡ sizes
 unfolding superblock_of
 sizes_are = refl
 
 -- no condition fails
-no_flaw : flaw_from_4 worked ≡ None
+pub no_flaw : flaw_from_4 worked ≡ None
 unfolding block_of line_of superblock_of used_inodes kind_flaw size_flaw reached_under reached walk first_bad range_flaw twice_flaw
     past_size_flaw tail_flaw chain_from chain first_broken chain_flaw lost_flaw first_uncacheable cache_flaw root_flaw directories
     contents entries entry_flaw namings rises_to_root dots_flaw links_flaw flaw_from_4
@@ -102,7 +102,7 @@ unfolding block_of superblock_of
 chain_is = refl
 
 -- the file is the node of mode 644, which is 420, with one link, six bytes and page 0
-abbrev file : Node
+abbrev pub file : Node
 file = record { kind = File; mode = 420; links = 1; size = 6; pages = fmap.from_entries ((0, block hello) ∷ []) }
 
 node_is : node_of sizes worked (inode_of sizes worked 4) ≡ file
@@ -123,14 +123,14 @@ used_is =
     at_most true = omega arith
     at_most false = omega arith
 
-abbrev addresses : List ℕ
+abbrev pub addresses : List ℕ
 addresses = 6 ∷ replicate 12 0
 
 -- what writes of these many bytes at these places take by the address tree: none within page 0; page 1; pages 9 and 10, with the
 -- indirect block of page 10; page 65,802, with three indirect blocks
-abbrev needed : ℕ → ℕ → ℕ
+abbrev pub needed : ℕ → ℕ → ℕ
 needed at count = write_need sizes (owned_by worked 4) addresses at count
 
-needs_are : needed 0 6 ∷ needed 6 1019 ∷ needed 10239 2 ∷ needed 67381248 1 ∷ [] ≡ 0 ∷ 1 ∷ 3 ∷ 4 ∷ []
+pub needs_are : needed 0 6 ∷ needed 6 1019 ∷ needed 10239 2 ∷ needed 67381248 1 ∷ [] ≡ 0 ∷ 1 ∷ 3 ∷ 4 ∷ []
 unfolding block_of line_of superblock_of used_inodes reached_under reached line_owner child number_in path need_at need_of
 needs_are = refl
