@@ -8,3 +8,4 @@ pub mod Returning
 pub mod Putting
 pub mod Reading
 pub mod Getting
+pub mod Cutting

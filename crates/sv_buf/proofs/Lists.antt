@@ -1,5 +1,5 @@
 -- What is read off the lists of a view, as a block is lent, comes back, or is put.
-use Rattle.std.proofs.Common.{◌≡◌, ◌≢◌, ◌+◌, ◌<◌, ◌==◌, ℕ, Bool, true, false, cond, not, List, [], ◌∷◌, Option, Some, None, IfSome, refl, sym, ap, ◌∙◌, subst, arith, inl, inr}
+use Rattle.std.proofs.Common.{◌≡◌, ◌≢◌, ◌+◌, ◌<◌, ◌==◌, ℕ, Bool, true, false, cond, not, List, [], ◌∷◌, Option, Some, None, IsSome, IfSome, refl, sym, ap, ◌∙◌, subst, arith, inl, inr}
 use Rattle.std.specs.List.{count_by, All}
 use Rattle.std.proofs.Math.Path.{fun_ext}
 use Rattle.std.proofs.lemmas.Bool.{cases_eq, eqb-true, eq-eqb, ne_eqb, and_parts}
@@ -135,3 +135,15 @@ lent-without b (x ∷ xs) =
     other c n true at true bt = absurd (n (sym (eqb-true c x.block at) ∙ eqb-true c b bt))
     other c n true at false bt = ap (λ t. cond t (Some x.bytes) (cond (c == b) None (lent_of xs c))) at ∙ sym (ap (λ t. cond t None (cond (c == x.block) (Some x.bytes) (lent_of xs c))) bt ∙ ap (λ t. cond t (Some x.bytes) (lent_of xs c)) at)
     other c n false at u bt = ap (λ t. cond t (Some x.bytes) (cond (c == b) None (lent_of xs c))) at ∙ sym (ap (λ t. cond (c == b) None (cond t (Some x.bytes) (lent_of xs c))) at)
+
+-- what is counted is held
+pub held-some : (b l : ℕ) (ns : List Noted) → 0 < count_by (is_at b l) ns → IsSome (held_of ns b l)
+unfolding held_of
+held-some b l [] some = absurd (omega arith)
+held-some b l (n ∷ ns) some = by (is_at b l n) refl (held-some b l ns)
+  where
+    by : (t : Bool) → is_at b l n ≡ t → (0 < count_by (is_at b l) ns → IsSome (held_of ns b l)) → IsSome (cond (is_at b l n) (Some n.bytes) (held_of ns b l))
+    by true at again = subst (λ t. IsSome (cond t (Some n.bytes) (held_of ns b l))) (sym at) refl
+    by false at again =
+        let none : cond {A = ℕ} (is_at b l n) 1 0 ≡ 0 = ap (λ t. cond {A = ℕ} t 1 0) at in
+        subst (λ t. IsSome (cond t (Some n.bytes) (held_of ns b l))) (sym at) (again (omega (arith, none, some, sum_by-cons (λ (x : Noted). cond {A = ℕ} (is_at b l x) 1 0) n ns)))

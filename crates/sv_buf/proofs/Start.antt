@@ -1,13 +1,14 @@
 -- A new cache meets the rule: no buffer names a block, and all lines of the disk are held once.
-use Rattle.std.proofs.Common.{◌≡◌, ◌+◌, ◌*◌, ◌<◌, ◌≤◌, ◌==◌, ◌&&◌, ℕ, zero, suc, Bool, true, false, cond, List, [], ◌∷◌, length, drop, min, replicate, nat_lt, refl, sym, ap, ◌∙◌, subst, arith, inl, inr, ◌-◌, ◌^◌, add-zero}
+use Rattle.std.proofs.Common.{◌≡◌, ◌+◌, ◌*◌, ◌<◌, ◌≤◌, ◌==◌, ◌&&◌, ℕ, zero, suc, Bool, true, false, cond, List, [], ◌∷◌, length, drop, min, replicate, nat_lt, Option, Some, None, IsSome, IfSome, refl, sym, ap, ◌∙◌, subst, arith, inl, inr, ◌-◌, ◌^◌, add-zero}
 use Rattle.std.specs.List.{count_by, All}
 use Rattle.std.specs.List.{range_with_len}
 use Rattle.std.specs.List.Sorted.{IsPermutation}
 use Rattle.std.proofs.Math.Nat.{mul-le-mul_right}
+use Rattle.std.proofs.Math.Path.{fun_ext}
 use Rattle.std.proofs.lemmas.Bool.Decides.{nat_tests}
 use Rattle.std.proofs.lemmas.List.Sums.{sum_by-cons, sum_by-append}
 use Rattle.std.proofs.lemmas.List.Sorted.{IsPermutation-refl}
-use Rattle.std.proofs.lemmas.Bool.{cases_lt, false≢true, lt-ltb, le-ltb}
+use Rattle.std.proofs.lemmas.Bool.{cases_lt, false≢true, and_parts, ltb-true, lt-ltb, le-ltb}
 use Rattle.std.proofs.lemmas.Option.{none-some}
 use Rattle.std.proofs.lemmas.List.{length-append, append-nil, length-replicate, get_or_past, get_or-replicate, length-take, length-drop}
 use Rattle.std.proofs.lemmas.List.Elements.{All-nil, All-cons, All-append}
@@ -19,14 +20,13 @@ use Rattle.sv_links.proofs.Walk.{times-range_in, times-range_past}
 use Rattle.sv_cache.specs.Cache.{Cache, Buffer, is_delayed, no_buffer, new_buffer, new_cache}
 use Rattle.sv_cache.proofs.New.{new-block, lawful-new}
 use Rattle.sv_request.specs.Queue.{Queue}
-use Rattle.sv_store.specs.Held.{line_of}
-use Rattle.sv_buf.specs.View.{Noted, Opening, Device, is_at, hits, outs, weight}
-use Rattle.sv_buf.specs.Running.{IsCurrent, IsSeen, IsLent, IsRunning}
-use Rattle.sv_buf.specs.Start.{block_notes, all_notes, whole_view, lines_view, worker_view, opened_with, IsNew}
+use Rattle.sv_store.specs.Held.{line_of, InRange}
+use Rattle.sv_store.proofs.Lines.{length-line_of}
+use Rattle.sv_buf.specs.View.{Noted, Opening, Device, is_at, hits, outs, held_of, weight}
+use Rattle.sv_buf.specs.Running.{IsCurrent, IsSeen, IsLent, IsRunning, IsFit}
+use Rattle.sv_buf.specs.Start.{block_notes, all_notes, whole_view, lines_view, worker_view, of_disk, opened_with, IsNew}
 use Rattle.sv_buf.specs.Parting.{IsCut}
-
-counted_at : (c l : ℕ) → List Noted → ℕ
-counted_at c l xs = count_by (is_at c l) xs
+use Rattle.sv_buf.proofs.Lists.{held-some, held-none, held-current}
 
 one_more : (n l : ℕ) → one_if (n == l) + one_if (nat_lt l n) ≡ one_if (nat_lt l (suc n))
 one_more n l = grind (nat_tests, arith)
@@ -197,3 +197,45 @@ begins-weight seen c n g new =
     let w = whole-weight (opened_with seen c) sizes in
     let most = sizes.most_blocks in
     (omega arith, omega arith)
+
+-- the lines that a new cache holds are those of the disk
+pub held-all : (o : Opening) → IsGeometry o.sizes → held_of (whole_view o).lines ≡ of_disk o.sizes o.disk.content
+unfolding of_disk
+held-all o is = fun_ext (λ b. fun_ext (λ l. by b l (nat_lt b o.sizes.blocks && nat_lt (l * 64) o.sizes.block_size) (whole-hits o b l is)))
+  where
+    value : (r : Option (List ℕ)) (x : List ℕ) → IsSome r → IfSome r (λ y. x ≡ y) → r ≡ Some x
+    value None x some are = absurd (false≢true some)
+    value (Some y) x some are = ap Some (sym are)
+
+    by : (b l : ℕ) (t : Bool) → hits b l (whole_view o) ≡ one_if t → held_of (whole_view o).lines b l ≡ cond t (Some (line_of (block_of o.sizes o.disk.content b) l)) None
+    by b l true one = value (held_of (whole_view o).lines b l) (line_of (block_of o.sizes o.disk.content b) l) (held-some b l (whole_view o).lines (omega arith)) (held-current (block_of o.sizes o.disk.content) b l (whole_view o).lines (whole-current o))
+    by b l false none = held-none b l (whole_view o).lines none
+
+-- a stake may stand for all lines
+pub fit-lines : (o : Opening) → IsGeometry o.sizes → length o.disk.content ≡ o.sizes.blocks * o.sizes.block_size → IsFit (lines_view o)
+unfolding of_disk
+fit-lines o is whole = record {
+  sizes = is;
+  range = subst (InRange o.sizes) (sym (held-all o is)) (record {
+    block = λ b l some. ltb-true b o.sizes.blocks (and_parts (nat_lt b o.sizes.blocks) (nat_lt (l * 64) o.sizes.block_size) (holds (nat_lt b o.sizes.blocks && nat_lt (l * 64) o.sizes.block_size) (line_of (block_of o.sizes o.disk.content b) l) some)).0;
+    line = λ b l some. ltb-true (l * 64) o.sizes.block_size (and_parts (nat_lt b o.sizes.blocks) (nat_lt (l * 64) o.sizes.block_size) (holds (nat_lt b o.sizes.blocks && nat_lt (l * 64) o.sizes.block_size) (line_of (block_of o.sizes o.disk.content b) l) some)).1;
+    bytes = λ b l. size b l (nat_lt b o.sizes.blocks && nat_lt (l * 64) o.sizes.block_size) refl;
+  });
+  some = let w = whole-weight o is in let least = is.least_blocks in omega arith;
+  calm = refl;
+  home = refl;
+}
+  where
+    holds : (t : Bool) (x : List ℕ) → IsSome (cond t (Some x) None) → t ≡ true
+    holds true x some = refl
+    holds false x some = absurd (false≢true some)
+
+    size : (b l : ℕ) (t : Bool) → (nat_lt b o.sizes.blocks && nat_lt (l * 64) o.sizes.block_size) ≡ t → IfSome (cond t (Some (line_of (block_of o.sizes o.disk.content b) l)) None) (λ line. length line ≡ 64)
+    size b l false at = tt
+    size b l true at =
+        let parts = and_parts (nat_lt b o.sizes.blocks) (nat_lt (l * 64) o.sizes.block_size) at in
+        let low = ltb-true b o.sizes.blocks parts.0 in
+        let inside = ltb-true (l * 64) o.sizes.block_size parts.1 in
+        let long = length-block o.sizes o.disk.content b whole low in
+        let bytes = is.block_size in
+        length-line_of (block_of o.sizes o.disk.content b) l ∙ omega arith

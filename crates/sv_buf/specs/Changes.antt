@@ -1,6 +1,7 @@
 -- What the calls make of a view.
-use Rattle.std.specs.Prelude.{◌+◌, ◌==◌, ℕ, List, ◌∷◌, map, not, Option, Some, None, filter, if◌then◌else◌}
-use Rattle.sv_store.specs.Held.{line_of}
+use Rattle.std.specs.Prelude.{◌+◌, ◌==◌, ◌++◌, ◌||◌, ℕ, List, [], ◌∷◌, map, not, false, Option, Some, None, filter, if◌then◌else◌}
+use Rattle.sv_form.specs.declared.owners.LineRange.{LineRange}
+use Rattle.sv_store.specs.Held.{line_of, in_ranges}
 use Rattle.sv_buf.specs.View.{Noted, Lending, Device, View}
 
 -- buffer k of block b is taken, for a transfer or to be lent
@@ -38,3 +39,15 @@ put_line b bytes n = if n.block == b then record n { bytes = line_of bytes n.lin
 -- block b has come back with new bytes
 abbrev pub put_view : ℕ → List ℕ → View → View
 put_view b bytes v = record v { lines = map (put_line b bytes) v.lines; loans = loans_without b v.loans }
+
+-- the lines that do not stand in the ranges are left, with all else
+abbrev pub kept_view : List LineRange → View → View
+kept_view lines v = record v { lines = filter (λ n. not (in_ranges lines n.block n.line)) v.lines }
+
+-- the lines that stand in the ranges, and nothing else
+abbrev pub parted_view : List LineRange → View → View
+parted_view lines v = record v { lines = filter (λ n. in_ranges lines n.block n.line) v.lines; loans = []; faults = 0; forced = false; workers = 0 }
+
+-- what both stand for
+abbrev pub merged_view : View → View → View
+merged_view v w = record v { lines = v.lines ++ w.lines; faults = v.faults + w.faults; forced = v.forced || w.forced; workers = v.workers + w.workers }

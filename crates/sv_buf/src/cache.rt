@@ -4,7 +4,8 @@ ghost use Rattle.sv_form.specs.Geometry.{IsGeometry};
 ghost use Rattle.sv_cache.specs.Cache.{IsBufferCount};
 ghost use Rattle.sv_turn.specs.Passes.{pass_view, IsOut, IsPassOf, first_view, turn_events};
 ghost use Rattle.sv_buf.specs.Running.{IsFit, seen_by};
-ghost use Rattle.sv_buf.specs.Start.{whole_view, lines_view, worker_view, opened_with, IsNew};
+ghost use Rattle.sv_buf.specs.Start.{whole_view, lines_view, worker_view, of_disk, opened_with, IsNew};
+ghost use Rattle.sv_buf.specs.Stake.{pass_held};
 
 use crate::NoMemory;
 use crate::medium::Medium;
@@ -46,6 +47,8 @@ impl<D: Disk> Cache<D> {
         ensures opening { IfOk result (λ r. first_view r.0.turn ≡ whole_view (record { sizes = geometry; buffers = buffers; disk = seen_by D.content D.reads D.writes D.faults disk })) }
         ensures first { IfOk result (λ r. IsPassOf r.0.turn r.1 × IsOut r.1 × (pass_view r.1 ≡ lines_view (first_view r.0.turn).opening)) }
         ensures worker { IfOk result (λ r. IsPassOf r.0.turn r.2 × IsOut r.2 × (pass_view r.2 ≡ worker_view (first_view r.0.turn).opening)) }
+        ensures fit { IfOk result (λ r. IsFit (pass_view r.1)) }
+        ensures held { IfOk result (λ r. pass_held r.1 ≡ of_disk (first_view r.0.turn).opening.sizes (first_view r.0.turn).opening.disk.content) }
     {
         match CacheCore::new(alloc, disk, buffers, geometry) {
             Ok(core) => open(alloc, core, buffers, geometry),
@@ -78,6 +81,8 @@ fn open<D: Medium>(
     ensures opening { IfOk result (λ r. first_view r.0.turn ≡ whole_view (opened_with (seen_by D.content D.reads D.writes D.faults) core)) }
     ensures first { IfOk result (λ r. IsPassOf r.0.turn r.1 × IsOut r.1 × (pass_view r.1 ≡ lines_view (first_view r.0.turn).opening)) }
     ensures worker { IfOk result (λ r. IsPassOf r.0.turn r.2 × IsOut r.2 × (pass_view r.2 ≡ worker_view (first_view r.0.turn).opening)) }
+    ensures fit { IfOk result (λ r. IsFit (pass_view r.1)) }
+    ensures held { IfOk result (λ r. pass_held r.1 ≡ of_disk (first_view r.0.turn).opening.sizes (first_view r.0.turn).opening.disk.content) }
 {
     let Ok(requests) = Requests::new(alloc, buffers) else {
         return Err((core.into_device().unwrap(), NoMemory));
@@ -106,9 +111,12 @@ fn share<D: Medium>(
     requires sized { IsGeometry sizes }
     requires same_sizes { (first_view turn).opening.sizes ≡ sizes }
     requires events { turn_events turn ≡ (first_view turn).opening.buffers + 3 }
+    requires length { length (first_view turn).opening.disk.content ≡ (first_view turn).opening.sizes.blocks * (first_view turn).opening.sizes.block_size }
     ensures same { IfOk result (λ r. first_view r.0.turn ≡ first_view turn) }
     ensures first { IfOk result (λ r. IsPassOf r.0.turn r.1 × IsOut r.1 × (pass_view r.1 ≡ lines_view (first_view r.0.turn).opening)) }
     ensures worker { IfOk result (λ r. IsPassOf r.0.turn r.2 × IsOut r.2 × (pass_view r.2 ≡ worker_view (first_view r.0.turn).opening)) }
+    ensures fit { IfOk result (λ r. IsFit (pass_view r.1)) }
+    ensures held { IfOk result (λ r. pass_held r.1 ≡ of_disk (first_view r.0.turn).opening.sizes (first_view r.0.turn).opening.disk.content) }
 {
     match turn.split::<Brand>(&mut first) {
         Ok(worker) => Ok((Cache { turn, sizes }, first, worker)),

@@ -1,10 +1,13 @@
 // A stake over the cache.
-ghost use Rattle.std.specs.Prelude.{◌≡◌, ◌<◌, ◌^◌, IfOk, OnErr};
-ghost use Rattle.sv_turn.specs.Passes.{pass_view, IsOut, IsPassOf, first_view};
+ghost use Rattle.std.specs.Prelude.{◌≡◌, ◌<◌, ◌^◌, ◌||◌, false, IfOk, OnOk, OnErr, IsErrOf};
+ghost use Rattle.sv_turn.specs.Passes.{pass_view, IsOut, IsPassOf, IsSamePass, first_view};
+ghost use Rattle.sv_dev.specs.Causes.{counted};
+ghost use Rattle.sv_store.specs.declared.refusal.Refusal.TheVariants.{NoMemory};
+ghost use Rattle.sv_buf.specs.Parting.{IsCut};
 ghost use Rattle.std.proofs.Props.{props};
 ghost use Rattle.sv_form.specs.Geometry.{IsGeometry};
-ghost use Rattle.sv_store.specs.Held.{InRange, put, with, without};
-ghost use Rattle.sv_store.specs.Calls.{CanGet, Gets, CanReturn, CanPut};
+ghost use Rattle.sv_store.specs.Held.{InRange, Both, put, with, without, nothing_lent};
+ghost use Rattle.sv_store.specs.Calls.{CanGet, Gets, CanReturn, CanPut, CanPart, Parts, CanMerge};
 ghost use Rattle.sv_store.specs.Causes.{HasFault};
 ghost use Rattle.sv_buf.specs.Running.{IsFit};
 ghost use Rattle.sv_buf.specs.Stake.{pass_held, pass_lent, pass_faults, pass_forced, pass_origin};
@@ -14,10 +17,13 @@ use crate::get::get;
 use crate::give::{take_back, take_put};
 use crate::medium::Medium;
 use crate::rule::Running;
+use crate::view::View;
+use std::alloc::{AllocError, Global};
+use std::marker::Brand;
 use std::sync::Wait;
 use sv_form::Geometry;
-use sv_store::{Buf, Refusal};
-use sv_turn::Pass;
+use sv_store::{Buf, LineRange, Refusal};
+use sv_turn::{CutView, Pass, Turn};
 
 /// The right to certain lines of a cache. What a stake holds changes only by its own calls, whatever other threads do.
 pub struct CacheStake<'a, D: Medium> {
@@ -79,6 +85,42 @@ impl<'a, D: Medium> CacheStake<'a, D> {
         take_put(rt, &self.cache.turn, &mut self.pass, buf);
     }
 
+    /// Cuts lines off as a stake of their own. A refusal is want of memory.
+    pub fn part(&mut self, _alloc: Global, lines: &[LineRange]) -> Result<Self, Refusal>
+        requires { CanPart (pass_held self.old.pass) (pass_lent self.old.pass) lines.now }
+        ensures ok { IfOk result (λ new. Parts (pass_held self.old.pass) lines.now (pass_held self.new.pass) (pass_held new.pass)) }
+        ensures new_lent { IfOk result (λ new. pass_lent new.pass ≡ nothing_lent) }
+        ensures new_faults { IfOk result (λ new. pass_faults new.pass ≡ 0) }
+        ensures new_forced { IfOk result (λ new. pass_forced new.pass ≡ false) }
+        ensures new_origin { IfOk result (λ new. pass_origin new.pass ≡ pass_origin self.old.pass) }
+        ensures err { OnErr result (pass_held self.new.pass ≡ pass_held self.old.pass) }
+        ensures memory { OnErr result (IsErrOf result NoMemory) }
+        ensures lends { pass_lent self.new.pass ≡ pass_lent self.old.pass }
+        ensures faults { pass_faults self.new.pass ≡ pass_faults self.old.pass }
+        ensures forced { pass_forced self.new.pass ≡ pass_forced self.old.pass }
+        ensures origin { pass_origin self.new.pass ≡ pass_origin self.old.pass }
+    {
+        let pass = split_lines::<Brand, D>(&self.cache.turn, &mut self.pass, lines)?;
+        Ok(CacheStake {
+            cache: self.cache,
+            pass,
+        })
+    }
+
+    /// Takes the lines of another stake in, and its faults with them.
+    pub fn merge(&mut self, other: Self)
+        requires lines { CanMerge (pass_held self.old.pass) (pass_held other.pass) (pass_lent other.pass) }
+        requires origin { pass_origin other.pass ≡ pass_origin self.old.pass }
+        ensures held { pass_held self.new.pass ≡ Both (pass_held self.old.pass) (pass_held other.entry.pass) }
+        ensures lends { pass_lent self.new.pass ≡ pass_lent self.old.pass }
+        ensures faults { pass_faults self.new.pass ≡ counted (pass_faults self.old.pass) (pass_faults other.entry.pass) }
+        ensures forced { pass_forced self.new.pass ≡ (pass_forced self.old.pass || pass_forced other.entry.pass) }
+        ensures origin { pass_origin self.new.pass ≡ pass_origin self.old.pass }
+    {
+        let CacheStake { cache: _, pass } = other;
+        self.cache.turn.join::<Brand>(&mut self.pass, pass);
+    }
+
     /// The pass again, with the lines that the stake holds.
     pub fn give_up(self) -> CachePass<D>
         ensures { result ≡ self.entry.pass }
@@ -86,4 +128,21 @@ impl<'a, D: Medium> CacheStake<'a, D> {
         let CacheStake { cache: _, pass } = self;
         pass
     }
+}
+
+// Cuts the lines of these ranges off, as `Turn::split` cuts a view.
+fn split_lines<C: CutView<View>, D: Medium>(
+    turn: &Turn<Running<D>>,
+    pass: &mut Pass<Running<D>>,
+    lines: &[LineRange],
+) -> Result<Pass<Running<D>>, AllocError>
+    requires own { IsPassOf turn.now pass.old }
+    requires away { IsOut pass.old }
+    requires cuts { IsCut (pass_view pass.old) (C.left (pass_view pass.old)) (C.right (pass_view pass.old)) }
+    ensures same { IsSamePass pass.old pass.new × IsOut pass.new }
+    ensures left { OnOk result (pass_view pass.new ≡ C.left (pass_view pass.old)) }
+    ensures right { IfOk result (λ other. IsPassOf turn.now other × IsOut other × (pass_view other ≡ C.right (pass_view pass.old))) }
+    ensures err { OnErr result (pass_view pass.new ≡ pass_view pass.old) }
+{
+    turn.split::<C>(pass)
 }
