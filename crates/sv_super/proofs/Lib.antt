@@ -6,6 +6,7 @@ pub mod FirstLine
 pub mod Flushes
 pub mod FreeNumbers
 pub mod Fronts
+pub mod GivenCaches
 pub mod InodeLines
 pub mod OnlyFree
 pub mod Samples

@@ -1,5 +1,5 @@
 // The cache of free inodes, by itself.
-ghost use Rattle.std.specs.Prelude.{◌≤◌, length};
+ghost use Rattle.std.specs.Prelude.{◌≡◌, ◌≤◌, false, IfOk, length, replicate};
 
 use crate::inodes::FreeInodes;
 use std::alloc::Global;
@@ -15,6 +15,28 @@ fn two_used(alloc: Global, count: usize) -> Result<FreeInodes, NoMemory>
         *flag = true;
     }
     FreeInodes::new(alloc, used.as_slice(), &[])
+}
+
+// The cache of the image that `mkfs A 64 32` makes.
+const CACHE: [u16; 30] = [
+    32, 31, 30, 29, 28, 27, 26, 25, 24, 23, 22, 21, 20, 19, 18, 17, 16, 15, 14, 13, 12, 11, 10, 9,
+    8, 7, 6, 5, 4, 3,
+];
+
+// A map of 32 inodes of which none is in use.
+fn none_used(alloc: Global) -> Result<Vec<bool>, NoMemory>
+    ensures { IfOk result (λ used. used.items ≡ replicate 32 false) }
+{
+    let used = vec![in alloc; false; 32]?;
+    Ok(used)
+}
+
+// The inodes of that image: inode 2 is the root, and 1 is never used.
+fn image_inodes(alloc: Global) -> Result<FreeInodes, NoMemory> {
+    let mut used = none_used(alloc)?;
+    used[0] = true;
+    used[1] = true;
+    FreeInodes::new(alloc, used.as_slice(), &CACHE)
 }
 
 // The next inode is taken.
@@ -45,6 +67,17 @@ fn taken_again(inodes: &mut FreeInodes) -> Option<(u16, u16)> {
     inodes.give(n);
     let again = take_next(inodes)?;
     Some((n, again))
+}
+
+#[test]
+fn the_cache_of_an_image_is_handed_out_from_its_end(rt: HostRuntime) -> Result<(), Fail> {
+    let mut inodes = image_inodes(rt.alloc())?;
+    assert_eq!(rt; inodes.left(), 30);
+    assert_eq!(rt; take_next(&mut inodes), Some(3));
+    assert_eq!(rt; take_next(&mut inodes), Some(4));
+    assert_eq!(rt; take_all(&mut inodes).0, 32);
+    assert_eq!(rt; take_next(&mut inodes), None);
+    Ok(())
 }
 
 #[test]
