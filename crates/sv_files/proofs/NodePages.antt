@@ -22,7 +22,7 @@ pair_bound n i j low high = grind arith
 row_bound : (m n x k : ℕ) → x < m → k < n → x * n + k < m * n
 row_bound m n x k low high = grind arith
 
-named : (b : ℕ) → not (b == 0) ≡ true → b ≢ 0
+pub named : (b : ℕ) → not (b == 0) ≡ true → b ≢ 0
 named b is e = absurd (false≢true (sym (ap not (eq-eqb b 0 e)) ∙ is))
 
 module _ (g : Geometry) where

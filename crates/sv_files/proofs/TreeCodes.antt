@@ -6,13 +6,15 @@ use Rattle.std.proofs.Common.{inr, filter, flat_map, cond, length, get_or, nat_l
 use Rattle.std.specs.List.{range_with_len}
 use Rattle.std.specs.Cmp.{Equal-is, tied_itself}
 use Rattle.std.specs.Ordering.{eq_by_cmp, is_eq}
-use Rattle.std.proofs.lemmas.Bool.{cases_eq, cases_lt, eq-eqb, ne_eqb, false≢true, lt-ltb, le-ltb}
+use Rattle.std.proofs.lemmas.Bool.{cases_eq, cases_lt, lt-ltb, le-ltb}
 use Rattle.std.proofs.lemmas.Nat.{div-mul-add, mod-mul-add}
 use Rattle.sv_form.specs.AddressTree.{Numbers, block_at, child, down}
 use Rattle.sv_form.specs.PagePath.{IsSpot, first_single, height_of, slots}
 use Rattle.sv_form.specs.Pair.{pair_cmp, pair_cmp_total, pair_cmp-IsAntisymmetric}
 use Rattle.sv_form.proofs.ReaderLemmas.{child-some, down-hole}
 use Rattle.sv_super.specs.Count.{one_if}
+use Rattle.sv_files.proofs.NodePages.{named}
+use Rattle.sv_files.proofs.TreeSpots.{IsWay, both_ends, no_zero, way-first, way-rest}
 use Rattle.sv_files.proofs.Hits.{hits, hits-append, one-of, some-of}
 
 -- a block by its height and its number there
@@ -56,31 +58,16 @@ top_of slot = cond (nat_lt slot first_single) slot 0
 abbrev pub code_at : ℕ → ℕ → List ℕ → Block
 code_at n slot ks = (height_of slot - length ks, led n (height_of slot) (top_of slot) ks)
 
--- places on the way down from a block at a height
-pub record IsPlaced (n h : ℕ) (ks : List ℕ) : Type 0 where
-  pub deep : length ks ≤ h
-  pub places : (i : ℕ) → i < length ks → get_or ks i 0 < n
-
-pub placed-rest : (n h k : ℕ) (ks : List ℕ) → IsPlaced n (suc h) (k ∷ ks) → IsPlaced n h ks
-placed-rest n h k ks way =
-    record { deep = (let deep = way.deep in omega (arith, deep)); places = λ i low. way.places (suc i) (omega (arith, low)) }
-
-pub placed-first : (n h k : ℕ) (ks : List ℕ) → IsPlaced n h (k ∷ ks) → k < n
-placed-first n h k ks way = way.places 0 (omega arith)
-
-pub placed-none : (n h : ℕ) → IsPlaced n h []
-placed-none n h = record { deep = omega arith; places = λ i low. absurd (omega (arith, low)) }
+pub way-none : (n h : ℕ) → IsWay n h []
+way-none n h = record { deep = omega arith; places = λ i low. absurd (omega (arith, low)) }
 
 placed_at : (n k : ℕ) (ks : List ℕ) → k < n → ((i : ℕ) → i < length ks → get_or ks i 0 < n) → (i : ℕ) → i < length (k ∷ ks)
     → get_or (k ∷ ks) i 0 < n
 placed_at n k ks low rest zero below = low
 placed_at n k ks low rest (suc i) below = rest i (omega (arith, below))
 
-pub placed-more : (n h k : ℕ) (ks : List ℕ) → k < n → IsPlaced n h ks → IsPlaced n (suc h) (k ∷ ks)
-placed-more n h k ks low way = record { deep = (let deep = way.deep in omega (arith, deep)); places = placed_at n k ks low way.places }
-
-both_ends : (k j : ℕ) (ks js : List ℕ) → k ≡ j → ks ≡ js → k ∷ ks ≡ j ∷ js
-both_ends k j ks js e f = ap (λ (x : ℕ). x ∷ ks) e ∙ ap (λ (l : List ℕ). j ∷ l) f
+pub way-more : (n h k : ℕ) (ks : List ℕ) → k < n → IsWay n h ks → IsWay n (suc h) (k ∷ ks)
+way-more n h k ks low way = record { deep = (let deep = way.deep in omega (arith, deep)); places = placed_at n k ks low way.places }
 
 same_row : (n i j k l : ℕ) → k < n → l < n → i * n + k ≡ j * n + l → i ≡ j
 same_row n i j k l p q e = sym (div-mul-add i n k p) ∙ ap (λ (x : ℕ). x / n) e ∙ div-mul-add j n l q
@@ -95,7 +82,7 @@ pub kid-column : (n h i j k l : ℕ) → k < n → l < n → kid n h i k ≡ kid
 kid-column n h i j k l p q e = same_column n i j k l p q (omega (arith, e))
 
 -- two ways of one length that lead to one block are one way
-pub led-same : (n h i j : ℕ) (ks js : List ℕ) → IsPlaced n h ks → IsPlaced n h js → length ks ≡ length js
+pub led-same : (n h i j : ℕ) (ks js : List ℕ) → IsWay n h ks → IsWay n h js → length ks ≡ length js
     → led n h i ks ≡ led n h j js → (i ≡ j) × (ks ≡ js)
 led-same n h i j [] [] one two size e = (e, refl)
 led-same n h i j [] (l ∷ js) one two size e = absurd (omega (arith, size))
@@ -103,13 +90,13 @@ led-same n h i j (k ∷ ks) [] one two size e = absurd (omega (arith, size))
 led-same n zero i j (k ∷ ks) (l ∷ js) one two size e = (let deep = one.deep in absurd (omega (arith, deep)))
 led-same n (suc h) i j (k ∷ ks) (l ∷ js) one two size e =
     let rest =
-    led-same n h (kid n h i k) (kid n h j l) ks js (placed-rest n h k ks one) (placed-rest n h l js two) (omega (arith, size)) e in
-    let p = placed-first n (suc h) k ks one in
-    let q = placed-first n (suc h) l js two in
+    led-same n h (kid n h i k) (kid n h j l) ks js (way-rest n h k ks one) (way-rest n h l js two) (omega (arith, size)) e in
+    let p = way-first n (suc h) k ks one in
+    let q = way-first n (suc h) l js two in
     (kid-row n h i j k l p q rest.0, both_ends k l ks js (kid-column n h i j k l p q rest.0) rest.1)
 
 -- a block below a higher one has no number before the first
-pub led-start : (n h H i j : ℕ) (ks js : List ℕ) → h < H → IsPlaced n h ks → IsPlaced n H js → h + length js ≡ H + length ks
+pub led-start : (n h H i j : ℕ) (ks js : List ℕ) → h < H → IsWay n h ks → IsWay n H js → h + length js ≡ H + length ks
     → led n h i ks ≡ led n H j js → start h ≤ i
 led-start n h zero i j ks js less one two size e = absurd (omega (arith, less))
 led-start n h (suc H) i j ks [] less one two size e = absurd (omega (arith, less, size))
@@ -117,10 +104,10 @@ led-start n h (suc H) i j ks (l ∷ js) less one two size e =
     elim (cases_eq h H) as (λ _. start h ≤ i) [
       | inl same ↦
           let here : led n H i ks ≡ led n H (kid n H j l) js = ap (λ (x : ℕ). led n x i ks) (sym same) ∙ e in
-          let all = led-same n H i (kid n H j l) ks js (subst (λ (x : ℕ). IsPlaced n x ks) same one) (placed-rest n H l js two)
+          let all = led-same n H i (kid n H j l) ks js (subst (λ (x : ℕ). IsWay n x ks) same one) (way-rest n H l js two)
           (omega (arith, size, same)) here in
           (let from : start h ≡ start H = ap start same in omega (arith, all.0, from))
-      | inr ne ↦ led-start n h H i (kid n H j l) ks js (omega (arith, less, ne)) one (placed-rest n H l js two) (omega (arith, size)) e
+      | inr ne ↦ led-start n h H i (kid n H j l) ks js (omega (arith, less, ne)) one (way-rest n H l js two) (omega (arith, size)) e
     ]
 
 -- ---- joined lists
@@ -163,12 +150,6 @@ few-of t f s (suc m) a each once =
 
 -- ---- the tree
 
-no_zero : (b : ℕ) → b ≢ 0 → not (b == 0) ≡ true
-no_zero b some = ap not (ne_eqb b 0 some)
-
-named : (b : ℕ) → not (b == 0) ≡ true → b ≢ 0
-named b is e = absurd (false≢true (sym (ap not (eq-eqb b 0 e)) ∙ is))
-
 -- a block at a height, by its number there, and all that is below it
 unfoldable pub coded : ℕ → Numbers → ℕ → ℕ → ℕ → List Block
 coded n numbers zero i b = (0, i) ∷ []
@@ -196,7 +177,7 @@ module _ (n : ℕ) (numbers : Numbers) where
   -- a block with this height and number stands at the end of a way
   pub record IsLed (q : Block) (h i b : ℕ) : Type 0 where
     pub ks : List ℕ
-    pub placed : IsPlaced n h ks
+    pub placed : IsWay n h ks
     pub deep : q.0 + length ks ≡ h
     pub is : q.1 ≡ led n h i ks
     pub there : down numbers b ks ≢ 0
@@ -205,7 +186,7 @@ module _ (n : ℕ) (numbers : Numbers) where
   led-top q h i b some e =
       record {
         ks = [];
-        placed = placed-none n h;
+        placed = way-none n h;
         deep = (let at : q.0 ≡ h = ap (λ (x : Block). x.0) e in omega (arith, at));
         is = ap (λ (x : Block). x.1) e;
         there = some;
@@ -215,7 +196,7 @@ module _ (n : ℕ) (numbers : Numbers) where
   led-kid q h i b k some low l =
       record {
         ks = k ∷ l.ks;
-        placed = placed-more n h k l.ks low l.placed;
+        placed = way-more n h k l.ks low l.placed;
         deep = (let deep = l.deep in omega (arith, deep));
         is = l.is;
         there = λ e. l.there (sym (ap (λ (x : ℕ). down numbers x l.ks) (child-some numbers b k some)) ∙ e);
@@ -241,7 +222,7 @@ module _ (n : ℕ) (numbers : Numbers) where
       led-kid q h i b p.part some (omega (arith, high))
       (hit-led q h (kid n h i p.part) (numbers b p.part) (named (numbers b p.part) p.passes) p.some)))
 
-  pub led-hit : (q : Block) (h i b : ℕ) (ks : List ℕ) → b ≢ 0 → IsPlaced n h ks → q ≡ (h - length ks, led n h i ks)
+  pub led-hit : (q : Block) (h i b : ℕ) (ks : List ℕ) → b ≢ 0 → IsWay n h ks → q ≡ (h - length ks, led n h i ks)
       → down numbers b ks ≢ 0 → 0 < hits (is_code q) (coded n numbers h i b)
   led-hit q zero i b [] some placed is there =
       let one : one_if (is_code q (0, i)) ≡ 1 = ap one_if (code-same q (0, i) is) in
@@ -253,12 +234,12 @@ module _ (n : ℕ) (numbers : Numbers) where
       omega (arith, one, top-hits (is_code q) h i b)
   led-hit q zero i b (k ∷ ks) some placed is there = (let deep = placed.deep in absurd (omega (arith, deep)))
   led-hit q (suc h) i b (k ∷ ks) some placed is there =
-      let low : k < n = placed-first n (suc h) k ks placed in
+      let low : k < n = way-first n (suc h) k ks placed in
       let same : down numbers (child numbers b k) ks ≡ down numbers (numbers b k) ks =
       ap (λ (x : ℕ). down numbers x ks) (child-some numbers b k some) in
       let named : numbers b k ≢ 0 = λ e. there (same ∙ ap (λ (x : ℕ). down numbers x ks) e ∙ down-hole numbers ks) in
       let high : suc h - suc (length ks) ≡ h - length ks = omega arith in
-      let part = led-hit q h (kid n h i k) (numbers b k) ks named (placed-rest n h k ks placed)
+      let part = led-hit q h (kid n h i k) (numbers b k) ks named (way-rest n h k ks placed)
       (is ∙ ap (λ (x : ℕ). (x, led n h (kid n h i k) ks)) high) (λ e. there (same ∙ e)) in
       let more = one-of (is_code q) (under h i b) (some_at b) n 0 k (omega arith) (omega (arith, low)) (no_zero (numbers b k) named) in
       omega (arith, part, more, top-hits (is_code q) h i b)
@@ -386,8 +367,8 @@ module _ (n : ℕ) (numbers : Numbers) where
     -- two spots with one code are one spot
     pub spot-same : (i j : ℕ) (ks js : List ℕ) → IsSpot n i ks → IsSpot n j js → code_at n i ks ≡ code_at n j js → (i ≡ j) × (ks ≡ js)
     spot-same i j ks js one two e =
-        let first : IsPlaced n (height_of i) ks = record { deep = one.deep; places = one.places } in
-        let second : IsPlaced n (height_of j) js = record { deep = two.deep; places = two.places } in
+        let first : IsWay n (height_of i) ks = record { deep = one.deep; places = one.places } in
+        let second : IsWay n (height_of j) js = record { deep = two.deep; places = two.places } in
         let high : height_of i - length ks ≡ height_of j - length js = ap (λ (x : Block). x.0) e in
         let at : led n (height_of i) (top_of i) ks ≡ led n (height_of j) (top_of j) js = ap (λ (x : Block). x.1) e in
         let fits = one.deep in
@@ -406,7 +387,7 @@ module _ (n : ℕ) (numbers : Numbers) where
                 let same : height_of i ≡ height_of j = omega (arith, past, other) in
                 let here : led n (height_of j) (top_of i) ks ≡ led n (height_of j) (top_of j) js =
                 ap (λ (x : ℕ). led n x (top_of i) ks) (sym same) ∙ at in
-                let all = led-same n (height_of j) (top_of i) (top_of j) ks js (subst (λ (x : ℕ). IsPlaced n x ks) same first) second
+                let all = led-same n (height_of j) (top_of i) (top_of j) ks js (subst (λ (x : ℕ). IsWay n x ks) same first) second
                 (omega (arith, high, fits, also, same)) here in
                 (same-top i j same all.0, all.1)
           ]

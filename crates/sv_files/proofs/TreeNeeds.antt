@@ -35,7 +35,7 @@ use Rattle.sv_inode.specs.StandsFor.{StandsFor}
 use Rattle.sv_inode.specs.Write.{write_need}
 use Rattle.sv_files.proofs.Hits.{any-hits, hits-any}
 use Rattle.sv_files.proofs.TreeCodes.{Block, code_at, codes, is_code, spot-hit, spot-there}
-use Rattle.sv_files.proofs.TreeUsed.{blocks-fronts, contains-code, downto, front_of, node_blocks}
+use Rattle.sv_files.proofs.TreeUsed.{blocks-fronts, contains-code, double_page, downto, front_of, node_blocks, triple_page}
 
 -- ---- the pages that have a block
 
@@ -217,9 +217,6 @@ pair_bound n i j low high = grind arith
 double_begin : (n i : ℕ) → 10 + n + (i * n + 0) ≡ 10 + (1 + (0 * n + i)) * n
 double_begin n i = grind arith
 
-double_page : (n i j : ℕ) → 10 + n + (i * n + j) ≡ 10 + ((1 + (0 * n + i)) * n + j)
-double_page n i j = grind arith
-
 triple_begin : (n i : ℕ) → 10 + n + n * n + ((i * n + 0) * n + 0) ≡ 10 + n + (1 + (0 * n + i)) * (n * n)
 triple_begin n i = grind arith
 
@@ -228,9 +225,6 @@ triple_end n i j k = grind arith
 
 triple_row : (n i j : ℕ) → 10 + n + n * n + ((i * n + j) * n + 0) ≡ 10 + (1 + ((1 + (0 * n + i)) * n + j)) * n
 triple_row n i j = grind arith
-
-triple_page : (n i j k : ℕ) → 10 + n + n * n + ((i * n + j) * n + k) ≡ 10 + ((1 + ((1 + (0 * n + i)) * n + j)) * n + k)
-triple_page n i j k = grind arith
 
 direct_code : (n i : ℕ) → i < 10 → (0, i) ≡ code_at n i []
 direct_code n i low =

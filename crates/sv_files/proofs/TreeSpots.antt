@@ -35,7 +35,7 @@ page_at n (suc h) page (k ∷ ks) = page_at n h (page + k * n ^ h) ks
 abbrev pub is_at : ℕ → Reached → Bool
 is_at b r = r.block == b
 
-both_ends : (k j : ℕ) (ks js : List ℕ) → k ≡ j → ks ≡ js → k ∷ ks ≡ j ∷ js
+pub both_ends : (k j : ℕ) (ks js : List ℕ) → k ≡ j → ks ≡ js → k ∷ ks ≡ j ∷ js
 both_ends k j ks js e f = ap (λ (x : ℕ). x ∷ ks) e ∙ ap (λ (l : List ℕ). j ∷ l) f
 
 module _ (n : ℕ) (numbers : Numbers) where

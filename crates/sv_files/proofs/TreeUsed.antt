@@ -36,6 +36,7 @@ use Rattle.sv_bmap.proofs.PageSpots.{path-spot}
 use Rattle.sv_bmap.proofs.Paths.{page-block-is}
 use Rattle.sv_inode.specs.StandsFor.{IsPageOf, StandsFor}
 use Rattle.sv_files.proofs.Hits.{any-hits, hits, hits-any}
+use Rattle.sv_files.proofs.NodePages.{named}
 use Rattle.sv_files.proofs.SpotPaths.{path-low, spot_path}
 use Rattle.sv_files.proofs.TreeCodes.{Block, code-is, code-itself, code-same, code_at, coded, codes, few-codes, hit-spot, is_code, kid}
 use Rattle.sv_files.proofs.TreeCodes.{spot-hit, top_of}
@@ -132,10 +133,10 @@ module _ (f : ℕ → Block) (q : Block) where
 abbrev pub front_of : ℕ → PagePath → ℕ → Block
 front_of n p m = code_at n (slot_of p) (take m (places_of p))
 
-double_page : (n i j : ℕ) → 10 + n + (i * n + j) ≡ 10 + ((1 + (0 * n + i)) * n + j)
+pub double_page : (n i j : ℕ) → 10 + n + (i * n + j) ≡ 10 + ((1 + (0 * n + i)) * n + j)
 double_page n i j = grind arith
 
-triple_page : (n i j k : ℕ) → 10 + n + n * n + ((i * n + j) * n + k) ≡ 10 + ((1 + ((1 + (0 * n + i)) * n + j)) * n + k)
+pub triple_page : (n i j k : ℕ) → 10 + n + n * n + ((i * n + j) * n + k) ≡ 10 + ((1 + ((1 + (0 * n + i)) * n + j)) * n + k)
 triple_page n i j k = grind arith
 
 triple_row : (n i j : ℕ) → 1 + n + (i * n + j) ≡ 1 + ((1 + (0 * n + i)) * n + j)
@@ -212,9 +213,6 @@ joined_four : (a b c d : List ℕ) → length (a ++ b ++ c ++ d) ≡ length a + 
 joined_four a b c d = grind (arith, length-append)
 
 module _ (n : ℕ) (numbers : Numbers) where
-  some_is : (b : ℕ) → not (b == 0) ≡ true → b ≢ 0
-  some_is b is e = absurd (false≢true (sym (ap not (eq-eqb b 0 e)) ∙ is))
-
   hole_is : (b : ℕ) → not (b == 0) ≡ false → b ≡ 0
   hole_is b is =
       elim (cases_eq b 0) as (λ _. b ≡ 0) [
@@ -240,7 +238,7 @@ module _ (n : ℕ) (numbers : Numbers) where
       (filter (λ k. not (numbers b k == 0)) (range_with_len 0 n)))
       ≡ length (flat_map g (range_with_len 0 n)) =
       length-joined (λ k. coded n numbers h (kid n h i k) (numbers b k)) g (λ k. not (numbers b k == 0))
-      (λ k is. as-many h (kid n h i k) (numbers b k) (some_is (numbers b k) is)
+      (λ k is. as-many h (kid n h i k) (numbers b k) (named (numbers b k) is)
       ∙ ap (λ (x : ℕ). length (blocks_below n numbers h x)) (sym (child-some numbers b k some)))
       (λ k is. none-below h (child numbers b k) (child-some numbers b k some ∙ hole_is (numbers b k) is)) n 0 in
       let there : length (cond (b == 0) [] (flat_map g (range_with_len 0 n) ++ b ∷ []))
@@ -255,7 +253,7 @@ module _ (n : ℕ) (numbers : Numbers) where
     all-below : length (codes n numbers address) ≡ length (flat_map below (range_with_len 0 slots))
     all-below =
         length-joined (λ k. coded n numbers (height_of k) (top_of k) (address k)) below (λ k. not (address k == 0))
-        (λ k is. as-many (height_of k) (top_of k) (address k) (some_is (address k) is))
+        (λ k is. as-many (height_of k) (top_of k) (address k) (named (address k) is))
         (λ k is. none-below (height_of k) (address k) (hole_is (address k) is)) slots 0
 
     pub all-blocks : length (codes n numbers address) ≡ length (tree.blocks_of n numbers address)
