@@ -1,5 +1,6 @@
 -- The bytes of a page, one by one.
-use Rattle.std.proofs.Common.{◌≡◌, ◌<◌, ◌+◌, ◌-◌, ◌++◌, ◌∷◌, [], ℕ, zero, suc, List, map, take, replicate, length, slice_index, sym, refl, ap, ◌∙◌, arith}
+use Rattle.std.proofs.Common.{◌≡◌, ◌<◌, ◌+◌, ◌-◌, ◌++◌, ◌∷◌, [], ℕ, zero, suc, List, map, take, replicate, length, slice_index, sym}
+use Rattle.std.proofs.Common.{refl, ap, ◌∙◌, arith}
 use Rattle.std.proofs.lemmas.List.{ext_get_or}
 use Rattle.std.proofs.lemmas.List.FromFn.{length-map-range_with_len, get_or-map-range_with_len}
 use Rattle.std.proofs.Math.Seq.{take-append_seam}
@@ -23,7 +24,8 @@ filled_front (x ∷ xs) a (suc n) f h =
     ap (λ m. x ∷ take n xs ++ replicate m 0) left
     ∙ (λ i. sym here i ∷ filled_front xs (a + 1) n f (λ k. let at : a + 1 + k ≡ a + suc k = omega arith in ap f at ∙ h (suc k)) i)
 
-pub listed : (xs : List ℕ) (a n : ℕ) (f : ℕ → ℕ) → length xs ≡ n → ((r : ℕ) → r < n → slice_index xs r ≡ f (a + r)) → xs ≡ map f (range_with_len a n)
+pub listed : (xs : List ℕ) (a n : ℕ) (f : ℕ → ℕ) → length xs ≡ n → ((r : ℕ) → r < n → slice_index xs r ≡ f (a + r))
+    → xs ≡ map f (range_with_len a n)
 listed xs a n f long h =
     ext_get_or 0 xs (map f (range_with_len a n)) (long ∙ sym (length-map-range_with_len f a n))
     (λ r low. (let within : r < n = omega (arith, low, long) in h r within ∙ sym (get_or-map-range_with_len f a n r (a + r) 0 within refl)))

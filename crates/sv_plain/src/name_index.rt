@@ -213,9 +213,11 @@ impl NameIndex {
         requires few { r < 64 }
         requires fits { first + r < 4294967295 }
         ensures slots { OnTrue result (self.new.slots ≡ self.old.slots) }
-        ensures put { OnTrue result (Notes self.old (first + r) (slot_inode (option_copied before.entry) r) (slot_key (option_copied before.entry) r)
+        ensures put { OnTrue result
+            (Notes self.old (first + r) (slot_inode (option_copied before.entry) r) (slot_key (option_copied before.entry) r)
             → Notes self.new (first + r) (slot_inode (Some after.now) r) (slot_key (Some after.now) r)) }
-        ensures kept { OnTrue result (Notes self.old (first + r) (slot_inode (option_copied before.entry) r) (slot_key (option_copied before.entry) r)
+        ensures kept { OnTrue result
+            (Notes self.old (first + r) (slot_inode (option_copied before.entry) r) (slot_key (option_copied before.entry) r)
             → (i inode key : ℕ) → i ≢ first + r → Notes self.old i inode key → Notes self.new i inode key) }
     {
         if first + r < self.covered {

@@ -10,4 +10,6 @@ returns c =
     let xs : List ℕ = c.args.before.now in
     let ys : List ℕ = c.args.after.now in
     let a : ℕ = 16 * c.args.r in
-    OnTrue_from c.eq.result _ (λ ok. same-range xs ys a (a + 16) refl ((bytes_eq-Decides (slice_range xs a (a + 16)) (slice_range ys a (a + 16))).0 (sym c.eq.ensures ∙ ok)))
+    OnTrue_from c.eq.result _
+    (λ ok. same-range xs ys a (a + 16) refl ((bytes_eq-Decides (slice_range xs a (a + 16)) (slice_range ys a (a + 16))).0
+    (sym c.eq.ensures ∙ ok)))

@@ -6,14 +6,16 @@ use Rattle.sv_plain.proofs.NameNotes.{key-ends, key-more, ranged}
 use Rattle.sv_plain.proofs.name_index.key_at.Goals as goal
 
 pub loop-k-init : goal.loop-k-init
-loop-k-init c = let first : c.args.at ≡ c.args.at + 0 = omega arith in ap (λ (n : ℕ). name_key (map (page_byte (option_copied c.args.page)) (range_with_len n 14))) first
+loop-k-init c = let first : c.args.at ≡ c.args.at + 0 = omega arith in
+    ap (λ (n : ℕ). name_key (map (page_byte (option_copied c.args.page)) (range_with_len n 14))) first
 
 pub returns-then-byte-eq0 : goal.returns-then-byte-eq0
 returns-then-byte-eq0 c =
     let f = page_byte (option_copied c.args.page) in
     let k : ℕ = c.loop-k.k in
     let none : f (c.args.at + k) ≡ 0 = sym c.byte_of_page-byte.ensures ∙ c.if-byte-eq0.true in
-    sym (c.loop-k.invariant ∙ ap (key_from c.loop-k.key) (ranged f c.args.at k (omega arith)) ∙ key-ends c.loop-k.key (f (c.args.at + k)) (map f (range_with_len (c.args.at + (k + 1)) (14 - (k + 1)))) none)
+    sym (c.loop-k.invariant ∙ ap (key_from c.loop-k.key) (ranged f c.args.at k (omega arith))
+    ∙ key-ends c.loop-k.key (f (c.args.at + k)) (map f (range_with_len (c.args.at + (k + 1)) (14 - (k + 1)))) none)
 
 pub loop-k-preserved : goal.loop-k-preserved
 loop-k-preserved c =

@@ -5,4 +5,5 @@ use Rattle.sv_plain.specs.NameIndex.{key_from, name_key}
 use Rattle.sv_plain.proofs.name_index.key_at.Given as goal
 
 abbrev pub invariant-loop-k : goal.invariant-loop-k
-invariant-loop-k l = name_key (map (page_byte (option_copied l.page)) (range_with_len l.at 14)) ≡ key_from l.key (map (page_byte (option_copied l.page)) (range_with_len (l.at + l.k) (14 - l.k)))
+invariant-loop-k l = name_key (map (page_byte (option_copied l.page)) (range_with_len l.at 14))
+    ≡ key_from l.key (map (page_byte (option_copied l.page)) (range_with_len (l.at + l.k) (14 - l.k)))

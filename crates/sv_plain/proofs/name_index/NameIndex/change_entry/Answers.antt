@@ -14,5 +14,5 @@ returns-then-is_same-clause-put c =
     let same : (i : ℕ) → i < 16 → page_byte before (16 * r + i) ≡ page_byte after (16 * r + i) =
     λ i low. c.present.ensures (16 * r + i) ∙ c.if-is_same.ensures i low in
     λ was.
-        subst (λ (k : ℕ). Notes index j (slot_inode after r) k) (same-key before after r same)
-        (subst (λ (n : ℕ). Notes index j n (slot_key before r)) (same-inode before after r same) was)
+    subst (λ (k : ℕ). Notes index j (slot_inode after r) k) (same-key before after r same)
+    (subst (λ (n : ℕ). Notes index j n (slot_key before r)) (same-inode before after r same) was)

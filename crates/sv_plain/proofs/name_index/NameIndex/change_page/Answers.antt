@@ -19,4 +19,5 @@ returns c =
     let old = c.args.self.now in
     let all : c.loop-r.r ≡ old.slots = omega arith in
     page-ends old c.loop-r.self c.args.page (option_copied c.args.before) c.args.after.now c.loop-r.invariant.slots
-    (subst (λ (r : ℕ). PageNotes old c.loop-r.self (c.args.page * old.slots) old.slots r (option_copied c.args.before) (Some c.args.after.now)) all c.loop-r.invariant.notes)
+    (subst (λ (r : ℕ). PageNotes old c.loop-r.self (c.args.page * old.slots) old.slots r (option_copied c.args.before)
+    (Some c.args.after.now)) all c.loop-r.invariant.notes)

@@ -18,4 +18,5 @@ pub returns-clause-kept : goal.returns-clause-kept
 returns-clause-kept c =
     OnTrue_from c.note_name.result _
     (λ ok. name-kept c.args.self.now c.note_name.new.self c.args.j c.args.after.key
-    (OnTrue_at ok c.note_name.ensures.new) (OnTrue_at ok c.note_name.ensures.places) (OnTrue_at ok c.note_name.ensures.empty) (OnTrue_at ok c.note_name.ensures.covered))
+    (OnTrue_at ok c.note_name.ensures.new) (OnTrue_at ok c.note_name.ensures.places) (OnTrue_at ok c.note_name.ensures.empty)
+    (OnTrue_at ok c.note_name.ensures.covered))

@@ -7,7 +7,8 @@ pub returns : goal.returns
 returns c =
     let all : List ℕ = c.present.result.now in
     let f = page_byte (option_copied c.args.page) in
-    let whole : c.extend_from_slice.new.self.items ≡ all = c.in_ok-extend_from_slice.ensures.items ∙ ap (λ xs. xs ++ all) c.new-bytes.ensures.items in
+    let whole : c.extend_from_slice.new.self.items ≡ all = c.in_ok-extend_from_slice.ensures.items
+    ∙ ap (λ xs. xs ++ all) c.new-bytes.ensures.items in
     let len : c.extend_from_slice.new.self.len ≡ length all = c.extend_from_slice.new.self.ok.0 ∙ ap length whole in
     c.in_ok-resize.ensures.items
     ∙ (λ i. take c.args.block (whole i) ++ replicate (c.args.block - len i) 0)
