@@ -37,7 +37,8 @@ pub fn mkfs<D: Disk>(disk: &mut D, blocks: u32, inodes: u32) -> Result<(), MakeF
     ensures err { IfErr result (SaysWhy (FitsOn (D.content disk.old) blocks inodes → ⊥) (Rose (D.faults disk.old) (D.faults disk.new))) }
     ensures refused { IsErrOf result Limits → disk.new ≡ disk.old }
     ensures length { length (D.content disk.new) ≡ length (D.content disk.old) }
-    ensures writes { OnOk result (HasCounted (D.writes disk.old) (unlike_blocks (made_geometry blocks inodes) (D.content disk.old) blocks) (D.writes disk.new)) }
+    ensures writes { OnOk result (HasCounted (D.writes disk.old)
+        (unlike_blocks (made_geometry blocks inodes) (D.content disk.old) blocks) (D.writes disk.new)) }
     ensures reads { OnOk result (D.reads disk.new ≡ counted (D.reads disk.old) blocks) }
     ensures faults { D.faults disk.old ≤ D.faults disk.new }
 {
@@ -72,7 +73,8 @@ fn write_blocks<D: Disk>(disk: &mut D, sizes: &Geometry) -> Result<(), Failed>
     requires length { length (D.content disk.old) ≡ sizes.now.blocks * 1024 }
     ensures made { OnOk result (D.content disk.new ≡ made_blocks sizes.now sizes.now.blocks) }
     ensures length { length (D.content disk.new) ≡ length (D.content disk.old) }
-    ensures writes { OnOk result (HasCounted (D.writes disk.old) (unlike_blocks sizes.now (D.content disk.old) sizes.now.blocks) (D.writes disk.new)) }
+    ensures writes { OnOk result (HasCounted (D.writes disk.old)
+        (unlike_blocks sizes.now (D.content disk.old) sizes.now.blocks) (D.writes disk.new)) }
     ensures reads { OnOk result (D.reads disk.new ≡ counted (D.reads disk.old) sizes.now.blocks) }
     ensures cause { HasCause (D.faults disk.old) (D.faults disk.new) result }
 {
@@ -89,7 +91,8 @@ fn put_block<D: Disk>(disk: &mut D, at: u64, block: &[u8]) -> Result<(), Failed>
     requires size { length block.now ≡ 1024 }
     ensures written { OnOk result (D.content disk.new ≡ overwritten (D.content disk.old) at block.now) }
     ensures length { length (D.content disk.new) ≡ length (D.content disk.old) }
-    ensures writes { OnOk result (D.writes disk.new ≡ (if stands_at (D.content disk.old) at block.now then D.writes disk.old else counted (D.writes disk.old) 1)) }
+    ensures writes { OnOk result (D.writes disk.new
+        ≡ (if stands_at (D.content disk.old) at block.now then D.writes disk.old else counted (D.writes disk.old) 1)) }
     ensures reads { OnOk result (D.reads disk.new ≡ counted (D.reads disk.old) 1) }
     ensures cause { HasCause (D.faults disk.old) (D.faults disk.new) result }
 {

@@ -12,5 +12,6 @@ returns-clause-inode g c =
     let at : Place = inode_place c.args.sizes.now c.args.number in
     let block : c.read_block.new.block ≡ block_of c.args.sizes.now image at.block =
     c.in_ok-read_block.ensures.bytes ∙ ap (λ (p : Place). block_of c.args.sizes.now image p.block) c.inode_place-place.ensures in
-    let bytes = line_of-is c.args.sizes.now image at at refl _ block c.from-at.result (c.from-at.ensures ∙ ap (λ (p : Place). p.line) c.inode_place-place.ensures) in
+    let bytes = line_of-is c.args.sizes.now image at at refl _ block c.from-at.result
+    (c.from-at.ensures ∙ ap (λ (p : Place). p.line) c.inode_place-place.ensures) in
     subst (λ (b : List ℕ). IsInodeRead b c.read_line.result) bytes c.read_line.ensures
