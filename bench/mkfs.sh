@@ -5,8 +5,8 @@
 # svfs new     the file is not there
 # svfs again   in place of the image that was made before
 # svfs least   four blocks: what is left is the start of the program
-# dd           as many writes of 1,024 bytes to a new file
-# mkfs.minix   writes its tables and leaves the blocks behind them alone; svfs writes each block
+# dd           as many writes of 1,024 bytes to a new file as the image has blocks
+# mkfs.minix   writes its tables and leaves the blocks behind them alone; svfs reads each block, and writes those that differ
 set -eu
 . "$(dirname "$0")/timed.sh"
 

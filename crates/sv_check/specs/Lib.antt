@@ -16,6 +16,7 @@ pub mod Loaded
 pub mod MadeBlocks
 pub mod MadeRoot
 pub mod MadeSizes
+pub mod MadeWrites
 pub mod Mkfs
 pub mod Pages
 pub mod PastSize

@@ -3,10 +3,9 @@ ghost use Rattle.std.specs.Prelude.{◌≡◌, ◌<◌, ◌*◌, ℕ, length, If
 ghost use Rattle.sv_dev.specs.Causes.{HasCause};
 ghost use Rattle.sv_form.specs.Geometry.{IsGeometry, IsNumber};
 ghost use Rattle.sv_form.specs.Image.{block_of, inode_of};
-ghost use Rattle.sv_form.specs.Inode.{IsInode};
-ghost use Rattle.sv_form.specs.declared.inode.DiskInode.{DiskInode};
-ghost use Rattle.sv_check.specs.Blocks.{ReadsInode};
+ghost use Rattle.sv_check.specs.Blocks.{IsInodeRead};
 
+use crate::inodes::read_line;
 use sv_dev::{Disk, Failed};
 use sv_form::{DiskInode, Geometry};
 
@@ -40,12 +39,12 @@ pub fn read_inode<D: Disk>(
     requires length { length (D.content disk.old) ≡ sizes.now.blocks * sizes.now.block_size }
     requires number { IsNumber sizes.now number }
     requires block { length block.old ≡ sizes.now.block_size }
-    ensures inode { IfOk result (ReadsInode (inode_of sizes.now (D.content disk.old) number)) }
+    ensures inode { IfOk result (IsInodeRead (inode_of sizes.now (D.content disk.old) number)) }
     ensures content { D.content disk.new ≡ D.content disk.old }
     ensures cause { HasCause (D.faults disk.old) (D.faults disk.new) result }
 {
     let place = sizes.inode_place(number);
     read_block(disk, sizes, place.block, block)?;
     let at = 64 * usize::from(place.line);
-    Ok(DiskInode::read(&block[at..at + 64]))
+    Ok(read_line(&block[at..at + 64]))
 }

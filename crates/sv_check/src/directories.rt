@@ -45,7 +45,8 @@ pub(crate) fn first_disordered<D: Disk>(
     ensures faults { D.faults disk.old ≤ D.faults disk.new }
 {
     for directory in kept {
-        if !is_in_order(alloc, disk, sizes, used, directory, standings, block)? {
+        let mut names = SeenNames::new(alloc);
+        if !is_in_order(disk, sizes, used, directory, &mut names, standings, block)? {
             return Ok(Some(directory.inode));
         }
     }
@@ -53,38 +54,8 @@ pub(crate) fn first_disordered<D: Disk>(
 }
 
 // Whether each page of a directory below its size is present, and its entries are in order; then they were taken into the
-// standings.
+// standings. No name was seen yet.
 fn is_in_order<D: Disk>(
-    alloc: Global,
-    disk: &mut D,
-    sizes: &Geometry,
-    used: &[bool],
-    directory: &Directory,
-    standings: &mut Standings,
-    block: &mut [u8],
-) -> Result<bool, CheckFault>
-    requires sizes { IsGeometry sizes.now }
-    requires length { length (D.content disk.old) ≡ sizes.now.blocks * sizes.now.block_size }
-    requires used { used.now ≡ used_flags sizes.now (D.content disk.old) }
-    requires ready { IsReady sizes.now (D.content disk.old) directory.now }
-    requires standings { length standings.old.of.items ≡ inode_count sizes.now + 1 }
-    requires number { directory.now.inode ≤ inode_count sizes.now }
-    requires block { length block.old ≡ sizes.now.block_size }
-    ensures order { IfOk result (λ ok. ok ≡ is_in_order sizes.now (D.content disk.old) directory.now.inode) }
-    ensures told { IfOk result (λ ok. OnTrue ok (standing_of standings.new
-        ≡ after (standing_of standings.old) (told_in sizes.now (D.content disk.old) directory.now.inode))) }
-    ensures len { IfOk result (λ ok. length standings.new.of.items ≡ length standings.old.of.items) }
-    ensures err { IfErr result (Says (λ _ _. ⊥) (Rose (D.faults disk.old) (D.faults disk.new)) ⊤) }
-    ensures content { D.content disk.new ≡ D.content disk.old }
-    ensures faults { D.faults disk.old ≤ D.faults disk.new }
-    ensures size { length block.new ≡ sizes.now.block_size }
-{
-    let mut names = SeenNames::new(alloc);
-    are_pages_in_order(disk, sizes, used, directory, &mut names, standings, block)
-}
-
-// The same, where no name was seen yet.
-fn are_pages_in_order<D: Disk>(
     disk: &mut D,
     sizes: &Geometry,
     used: &[bool],

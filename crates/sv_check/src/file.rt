@@ -9,11 +9,10 @@ ghost use Rattle.sv_check.specs.FilePages.{AreInData, AreInOrder, IsFileSize, Sh
 ghost use Rattle.sv_check.specs.InodeList.{is_free, reads_inode};
 ghost use Rattle.sv_check.specs.Sound.{IsSound};
 
-use crate::inodes::read_line;
 use crate::pages::PageBlock;
 use crate::walk::Walk;
 use crate::whole_walk::no_owners;
-use crate::{CheckFault, read_block};
+use crate::{CheckFault, read_block, read_inode};
 use std::alloc::Global;
 use sv_dev::{Disk, Failed};
 use sv_form::{DiskInode, Geometry, Kind};
@@ -34,10 +33,7 @@ pub fn file_size<D: Disk>(
     ensures content { D.content disk.new ≡ D.content disk.old }
     ensures cause { HasCause (D.faults disk.old) (D.faults disk.new) result }
 {
-    let place = sizes.inode_place(inode);
-    read_block(disk, sizes, place.block, block)?;
-    let at = 64 * usize::from(place.line);
-    let read = read_line(&block[at..at + 64]);
+    let read = read_inode(disk, sizes, inode, block)?;
     Ok(regular_size(&read))
 }
 

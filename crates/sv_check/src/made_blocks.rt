@@ -182,7 +182,8 @@ fn fill_to(block: &mut ArrayVec<u8, 1024>, place: usize)
     ensures bytes { block.new.items ≡ filled_to place block.old.items }
     ensures length { length block.new.items ≡ place }
 {
-    for _ in block.len()..place {
-        block.push(0);
-    }
+    let zeros = [0; SIZE];
+    let Ok(()) = block.try_extend_from_slice(&zeros[..place - block.len()]) else {
+        unreachable!();
+    };
 }

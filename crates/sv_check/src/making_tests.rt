@@ -150,33 +150,65 @@ fn limits(rt: HostRuntime) -> Result<(), Failure> {
     Ok(())
 }
 
-// Each block is written once, and no block is read. Each of the writes may fail.
+// Each block is read once, and is written where it reads as another one. Each of these calls may fail.
 #[test]
-fn writes_and_faults(rt: HostRuntime) -> Result<(), Failure> {
+fn reads_writes_and_faults(rt: HostRuntime) -> Result<(), Failure> {
     let alloc = rt.alloc();
-    let log = [
-        Access::Write(0),
-        Access::Write(1_024),
-        Access::Write(2_048),
-        Access::Write(3_072),
-    ];
-    assert!(rt; writes_exactly(alloc, &log)?);
+    assert!(rt; asks_exactly(alloc, 0xff, &[0, 1, 2, 3])?);
+    assert!(rt; asks_exactly(alloc, 0, &[0, 2, 3])?);
     for k in 1..=4 {
-        assert!(rt; says_fault(alloc, k)?);
+        assert!(rt; says_fault(alloc, Fail::Read(k))?);
+        assert!(rt; says_fault(alloc, Fail::Write(k))?);
     }
     Ok(())
 }
 
-// Whether an image of four blocks is made by these writes alone.
-fn writes_exactly(alloc: Global, log: &[Access]) -> Result<bool, AllocError> {
-    let mut disk = set_disk(alloc, 4)?;
+// Whether making an image of four blocks, in place of bytes that are all this one, writes these blocks alone.
+fn asks_exactly(alloc: Global, byte: u8, written: &[u64]) -> Result<bool, AllocError> {
+    let content = vec![in alloc; byte; 4_096]?;
+    let mut disk = MemDisk::new(content, Vec::new(alloc));
     let is_made = mkfs(&mut disk, 4, 2).is_ok();
-    Ok(is_made & (disk.log() == log))
+    Ok(is_made & has_log(disk.log(), written))
 }
 
-// Whether the making tells that the disk failed, where the k-th write fails.
-fn says_fault(alloc: Global, k: u64) -> Result<bool, AllocError> {
-    let fails = vec![in alloc; Fail::Write(k)]?;
+// Whether the log has a read of each of the four blocks, and behind it a write where the block is one of these.
+fn has_log(log: &[Access], written: &[u64]) -> bool {
+    let mut left = log.iter().copied();
+    for block in 0..4u64 {
+        if left.next() != Some(Access::Read(block * 1_024)) {
+            return false;
+        }
+        if written.contains(&block) && left.next() != Some(Access::Write(block * 1_024)) {
+            return false;
+        }
+    }
+    left.next().is_none()
+}
+
+// An image is made again with no write.
+#[test]
+fn made_again(rt: HostRuntime) -> Result<(), Failure> {
+    let mut disk = set_disk(rt.alloc(), 64)?;
+    assert!(rt; is_written_once(&mut disk));
+    Ok(())
+}
+
+fn is_written_once(disk: &mut MemDisk) -> bool {
+    let is_made = mkfs(disk, 64, 32).is_ok();
+    let once = writes_of(disk.log());
+    let is_made_again = mkfs(disk, 64, 32).is_ok();
+    is_made & is_made_again & (once == 64) & (writes_of(disk.log()) == 64)
+}
+
+fn writes_of(log: &[Access]) -> usize {
+    log.iter()
+        .filter(|access| matches!(access, Access::Write(_)))
+        .count()
+}
+
+// Whether the making tells that the disk failed, where this call fails.
+fn says_fault(alloc: Global, fail: Fail) -> Result<bool, AllocError> {
+    let fails = vec![in alloc; fail]?;
     let content = vec![in alloc; 0xff; 4_096]?;
     let mut disk = MemDisk::new(content, fails);
     Ok(mkfs(&mut disk, 4, 2) == Err(MakeFault::Fault))

@@ -11,7 +11,7 @@ use sv_plain::{Entry, Fs, Illegal, apply};
 
 /// Takes a file system through a history, entry by entry, or says which entry is the first that could not have happened.
 /// The file system is whole, and so is what comes out. Each entry costs what its step touches.
-pub fn replay(fs: Fs, alloc: Global, entries: &[Entry]) -> Result<Fs, ReplayFault>
+pub fn replay(alloc: Global, fs: Fs, entries: &[Entry]) -> Result<Fs, ReplayFault>
     requires whole { IsWhole fs }
     requires few { length entries.now < 2 ^ 32 }
     ensures legal { IfOk result (λ _. IsLegal entries.now fs) }
@@ -21,13 +21,13 @@ pub fn replay(fs: Fs, alloc: Global, entries: &[Entry]) -> Result<Fs, ReplayFaul
 {
     let mut fs = fs;
     for i in 0..entries.len() {
-        take(&mut fs, alloc, &entries[i], i as u32)?;
+        take(alloc, &mut fs, &entries[i], i as u32)?;
     }
     Ok(fs)
 }
 
 // Takes one step, that of the entry at place i.
-fn take(fs: &mut Fs, alloc: Global, entry: &Entry, i: u32) -> Result<(), ReplayFault>
+fn take(alloc: Global, fs: &mut Fs, entry: &Entry, i: u32) -> Result<(), ReplayFault>
     requires { IsWhole fs.old }
     ensures allowed { OnOk result (IsAllowed fs.old entry.now) }
     ensures after { OnOk result (fs.new ≡ change_of fs.old entry.now.process entry.now.op entry.now.reply) }

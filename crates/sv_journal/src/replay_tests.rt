@@ -52,7 +52,7 @@ fn replayed(alloc: Global, entries: &[Entry]) -> Result<Vec<u8>, ReplayFault> {
         return Err(ReplayFault::NoMemory);
     };
     let entries = &entries[..entries.len().min(28)];
-    let fs = replay(fs, alloc, entries)?;
+    let fs = replay(alloc, fs, entries)?;
     let Ok(text) = listing(alloc, &fs) else {
         return Err(ReplayFault::NoMemory);
     };

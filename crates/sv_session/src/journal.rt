@@ -105,7 +105,7 @@ fn replay_entries(alloc: Global, fs: Fs, entries: &[Entry]) -> Result<Fs, Stop>
     ensures after { IfOk result (λ new. new ≡ after entries.now fs) }
     ensures reason { IfErr result (StopsReplay (λ number place. ⊥) (IsIllegalAt entries.now fs) ⊥ ⊥ ⊥) }
 {
-    match replay(fs, alloc, entries) {
+    match replay(alloc, fs, entries) {
         Ok(fs) => Ok(fs),
         Err(ReplayFault::Place(place)) => Err(Stop::JournalRefused { line: place + 2 }),
         Err(ReplayFault::NoMemory) => Err(Stop::NoMemory),

@@ -18,8 +18,8 @@ use sv_dev::{Host, Sink};
 /// Makes an image of so many blocks of 1,024 bytes for so many inodes, a root with nothing in it, under the name, in place
 /// of what stood there, and answers the exit status. The status is 1 exactly where no image has these two numbers.
 ///
-/// The image begins as zero bytes. Where the disk fails it is not kept. Each block is written once, and no block is read. It
-/// returns always.
+/// The image begins as zero bytes. Where the disk fails it is not kept. Each block is read once, and written once where the image
+/// has other bytes there. It returns always.
 pub fn mkfs_image<R: Files<File = File>, H: Host, O: Sink>(
     rt: &R,
     alloc: Global,

@@ -113,23 +113,37 @@ fn each_call_failing(rt: HostRuntime) -> Result<(), Failure> {
     Ok(())
 }
 
-// A host with an image whose disks fail at that write.
-fn host_with_a_bad_disk(alloc: Global, write: u64) -> Result<MemHost, Failure> {
+// A host with an image whose disks fail at that call.
+fn host_with_a_bad_disk(alloc: Global, fail: Fail) -> Result<MemHost, Failure> {
     let mut host = MemHost::new(Vec::new(alloc));
-    let fails = vec![in alloc; Fail::Write(write)]?;
+    let fails = vec![in alloc; fail]?;
     host.put_image("i", vec![in alloc; 7; 5]?, fails)?;
     Ok(host)
 }
 
-// There are four writes. What was written before the one that fails is not kept.
+// A making over such a disk is answered by a device fault. What was written before the call that fails is not kept.
+fn tells_fault<R: Files<File = File> + AllocGlobal + Threads + Wait + Abort>(
+    rt: &R,
+    fail: Fail,
+) -> Result<(), Failure> {
+    let mut host = host_with_a_bad_disk(rt.alloc(), fail)?;
+    answers(rt, &mut host, &SMALLEST, 4, "", "svfs: device fault\n")?;
+    assert!(rt; has_zeros(&host));
+    Ok(())
+}
+
+// There are four reads, and three writes: block 1 has zero bytes.
 #[test]
-fn each_write_failing(rt: HostRuntime) -> Result<(), Failure> {
-    let alloc = rt.alloc();
-    for write in 1..=4 {
-        let mut host = host_with_a_bad_disk(alloc, write)?;
-        answers(&rt, &mut host, &SMALLEST, 4, "", "svfs: device fault\n")?;
-        assert!(rt; has_zeros(&host));
+fn each_transfer_failing(rt: HostRuntime) -> Result<(), Failure> {
+    for read in 1..=4 {
+        tells_fault(&rt, Fail::Read(read))?;
     }
-    let mut host = host_with_a_bad_disk(alloc, 5)?;
-    answers(&rt, &mut host, &SMALLEST, 0, "", "")
+    for write in 1..=3 {
+        tells_fault(&rt, Fail::Write(write))?;
+    }
+    for fail in [Fail::Read(5), Fail::Write(4)] {
+        let mut host = host_with_a_bad_disk(rt.alloc(), fail)?;
+        answers(&rt, &mut host, &SMALLEST, 0, "", "")?;
+    }
+    Ok(())
 }

@@ -3,5 +3,9 @@ use Rattle.sv_dev.specs.MemHost.{text_under}
 use Rattle.sv_session.proofs.replay_tests.journal_that_is_not_there.Goals as goal
 
 pub replay_of_nothing-status-requires-clause-texts : goal.replay_of_nothing-status-requires-clause-texts
-replay_of_nothing-status-requires-clause-texts g c κs =
-    ((λ name. text_under c.put_image.new.self name), refl, (λ name. subst (λ (o : Option (List ℕ)). IsNone o) (sym (c.put_image.ensures.texts name)) (c.new-host.ensures.texts name)))
+replay_of_nothing-status-requires-clause-texts g c κs = (
+  (λ name. text_under c.put_image.new.self name),
+  refl,
+  (λ name. subst (λ (o : Option (List ℕ)). IsNone o)
+      (sym (c.put_image.ensures.texts name)) (c.new-host.ensures.texts name)),
+)

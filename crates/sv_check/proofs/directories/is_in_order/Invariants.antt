@@ -2,7 +2,7 @@ use Rattle.std.proofs.Common.{◌≡◌, ◌≤◌, length}
 use Rattle.sv_check.specs.Standings.{standing_of}
 use Rattle.sv_check.proofs.DirectorySteps.{IsThrough}
 use Rattle.sv_check.proofs.ToldEntries.{IsToldTo}
-use Rattle.sv_check.proofs.directories.are_pages_in_order.Given as goal
+use Rattle.sv_check.proofs.directories.is_in_order.Given as goal
 
 abbrev pub invariant-loop-k : goal.invariant-loop-k
 invariant-loop-k g l = record {

@@ -12,7 +12,7 @@ use Rattle.sv_check.proofs.EntryTakes.{when_true}
 use Rattle.sv_check.proofs.Flaws.{none_here}
 use Rattle.sv_check.proofs.StandingSteps.{length-pieces}
 use Rattle.sv_check.proofs.ToldEntries.{taken_below, told_end, told_first, told_on}
-use Rattle.sv_check.proofs.directories.are_pages_in_order.Goals as goal
+use Rattle.sv_check.proofs.directories.is_in_order.Goals as goal
 
 pub loop-k-init : goal.loop-k-init
 loop-k-init g c = record {
