@@ -15,7 +15,7 @@ ghost use Rattle.sv_bmap.specs.Writes.{PutsNumber, SetsNumber};
 use crate::Addresses;
 use crate::pages::child_of;
 use std::sync::Wait;
-use sv_form::{PagePath, write_number32};
+use sv_form::{DOUBLE, PagePath, SINGLE, TRIPLE, write_number32};
 use sv_store::{Buf, Refusal, Stake};
 
 /// Makes a page present that was a hole (Bach, chapter 4.2). The last of `blocks` becomes the page, with these bytes; the
@@ -83,17 +83,17 @@ fn spot_of(path: PagePath) -> Spot
             places: [0, 0, 0],
         },
         PagePath::Single(i) => Spot {
-            slot: 10,
+            slot: SINGLE,
             depth: 1,
             places: [usize::from(i), 0, 0],
         },
         PagePath::Double(i, j) => Spot {
-            slot: 11,
+            slot: DOUBLE,
             depth: 2,
             places: [usize::from(i), usize::from(j), 0],
         },
         PagePath::Triple(i, j, k) => Spot {
-            slot: 12,
+            slot: TRIPLE,
             depth: 3,
             places: [usize::from(i), usize::from(j), usize::from(k)],
         },

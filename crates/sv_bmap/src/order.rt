@@ -12,6 +12,7 @@ use crate::Addresses;
 use crate::pages::child_of;
 use std::alloc::Global;
 use std::sync::Wait;
+use sv_form::{DOUBLE, SINGLE, TRIPLE};
 use sv_store::{NoMemory, Refusal, Stake};
 
 /// The blocks of the tree: pages ascending, each indirect block after all that is under it. A refusal is a fault that
@@ -30,9 +31,9 @@ pub fn collect<R: Wait, S: Stake>(
 {
     let mut blocks = Vec::new(alloc);
     add_pages(a, &mut blocks)?;
-    add_single(rt, s, a[10], &mut blocks)?;
-    add_double(rt, s, a[11], &mut blocks)?;
-    add_triple(rt, s, a[12], &mut blocks)?;
+    add_single(rt, s, a[SINGLE], &mut blocks)?;
+    add_double(rt, s, a[DOUBLE], &mut blocks)?;
+    add_triple(rt, s, a[TRIPLE], &mut blocks)?;
     Ok(blocks)
 }
 
@@ -59,7 +60,7 @@ fn add_pages(a: &Addresses, blocks: &mut Vec<u32>) -> Result<(), NoMemory>
     ensures { OnOk result (blocks.new.items ≡ blocks.old.items
         ++ flat_map (λ slot. if slice_index a.now slot == 0 then [] else slice_index a.now slot ∷ []) (range_with_len 0 first_single)) }
 {
-    for slot in 0..10usize {
+    for slot in 0..SINGLE {
         add_page(a[slot], blocks)?;
     }
     Ok(())

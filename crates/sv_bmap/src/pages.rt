@@ -8,7 +8,7 @@ ghost use Rattle.sv_bmap.specs.Need.{need_at, need_of};
 ghost use Rattle.sv_bmap.specs.Tree.{IsTree, child, no_hole, page_block};
 
 use std::sync::Wait;
-use sv_form::{PagePath, number32};
+use sv_form::{DOUBLE, PagePath, SINGLE, TRIPLE, number32};
 use sv_store::{Refusal, Stake};
 
 /// The block numbers of an inode: ten of pages, and those of the single, the double and the triple indirect block.
@@ -44,14 +44,14 @@ fn block_of<R: Wait, S: Stake>(rt: &R, a: &Addresses, s: &mut S, page: u32) -> R
     let sizes = s.geometry();
     match sizes.path_of(page) {
         PagePath::Direct(i) => Ok(a[usize::from(i)]),
-        PagePath::Single(i) => child_of(rt, s, a[10], usize::from(i)),
+        PagePath::Single(i) => child_of(rt, s, a[SINGLE], usize::from(i)),
         PagePath::Double(i, j) => {
-            let (_, block) = two_below(rt, s, a[11], usize::from(i), usize::from(j))?;
+            let (_, block) = two_below(rt, s, a[DOUBLE], usize::from(i), usize::from(j))?;
             Ok(block)
         }
         PagePath::Triple(i, j, k) => {
             let (i, j, k) = (usize::from(i), usize::from(j), usize::from(k));
-            let (_, _, block) = three_below(rt, s, a[12], i, j, k)?;
+            let (_, _, block) = three_below(rt, s, a[TRIPLE], i, j, k)?;
             Ok(block)
         }
     }
@@ -183,22 +183,22 @@ fn need_of_page<R: Wait, S: Stake>(
     match sizes.path_of(page) {
         PagePath::Direct(i) => Ok(missing(a[usize::from(i)], true)),
         PagePath::Single(i) => {
-            let block = child_of(rt, s, a[10], usize::from(i))?;
-            Ok(missing(a[10], begins | (i == 0)) + missing(block, true))
+            let block = child_of(rt, s, a[SINGLE], usize::from(i))?;
+            Ok(missing(a[SINGLE], begins | (i == 0)) + missing(block, true))
         }
         PagePath::Double(i, j) => {
-            let (middle, block) = two_below(rt, s, a[11], usize::from(i), usize::from(j))?;
+            let (middle, block) = two_below(rt, s, a[DOUBLE], usize::from(i), usize::from(j))?;
             Ok(
-                missing(a[11], begins | ((i == 0) & (j == 0)))
+                missing(a[DOUBLE], begins | ((i == 0) & (j == 0)))
                     + missing(middle, begins | (j == 0))
                     + missing(block, true),
             )
         }
         PagePath::Triple(i, j, k) => {
             let (x, y, z) = (usize::from(i), usize::from(j), usize::from(k));
-            let (upper, lower, block) = three_below(rt, s, a[12], x, y, z)?;
+            let (upper, lower, block) = three_below(rt, s, a[TRIPLE], x, y, z)?;
             Ok(
-                missing(a[12], begins | ((i == 0) & ((j == 0) & (k == 0))))
+                missing(a[TRIPLE], begins | ((i == 0) & ((j == 0) & (k == 0))))
                     + missing(upper, begins | ((j == 0) & (k == 0)))
                     + missing(lower, begins | (k == 0))
                     + missing(block, true),

@@ -17,6 +17,15 @@ pub enum PagePath {
 /// How many direct addresses an inode has.
 pub const DIRECT: u32 = 10;
 
+/// Where the single indirect block stands among the addresses of an inode.
+pub const SINGLE: usize = 10;
+
+/// Where the double indirect block stands among them.
+pub const DOUBLE: usize = 11;
+
+/// Where the triple indirect block stands among them. It is the last.
+pub const TRIPLE: usize = 12;
+
 impl Geometry {
     ghost use Rattle.sv_form.specs.Geometry.{IsGeometry};
     ghost use Rattle.sv_form.specs.PagePath.{block_numbers, greatest_size, page_limit, page_of, IsPage, IsPath};
