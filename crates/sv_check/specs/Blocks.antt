@@ -7,6 +7,7 @@ use Rattle.sv_form.specs.declared.link_block.LinkBlock.{LinkBlock}
 use Rattle.sv_form.specs.Inode.{IsInode}
 use Rattle.sv_form.specs.LinkBlock.{IsLinkBlock}
 use Rattle.sv_form.specs.Node.{is_dir}
+use Rattle.sv_form.specs.PagePath.{slots}
 use Rattle.sv_plain.specs.Front.{address_of, size_of}
 use Rattle.sv_check.specs.Chain.{list_in, reads_list}
 use Rattle.sv_check.specs.InodeList.{is_directory, is_free, links_of, reads_inode}
@@ -21,7 +22,7 @@ pub record ShowsBody (bytes : List ℕ) (b : InodeBody) : Type 0 where
   pub directory : is_directory bytes ≡ is_dir b.kind
   pub links : links_of bytes ≡ b.links
   pub size : size_of bytes ≡ b.size
-  pub addresses : (k : ℕ) → k < 13 → address_of bytes k ≡ slice_index b.addresses k
+  pub addresses : (k : ℕ) → k < slots → address_of bytes k ≡ slice_index b.addresses k
 
 -- the same of any inode
 abbrev pub ShowsInode : List ℕ → DiskInode → Type 0

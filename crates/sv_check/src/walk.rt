@@ -4,7 +4,7 @@ ghost use Rattle.std.specs.Bool.{OnTrue, OnFalse};
 ghost use Rattle.sv_dev.specs.Causes.{Rose};
 ghost use Rattle.sv_form.specs.Geometry.{IsGeometry};
 ghost use Rattle.sv_form.specs.Image.{block_of};
-ghost use Rattle.sv_form.specs.PagePath.{block_numbers};
+ghost use Rattle.sv_form.specs.PagePath.{block_numbers, slots};
 ghost use Rattle.sv_check.specs.Fault.{Says};
 ghost use Rattle.sv_check.specs.InodeList.{all_zero};
 ghost use Rattle.sv_check.specs.PastSize.{has_tail};
@@ -236,7 +236,7 @@ impl Walk {
 
 /// The height of the block at address k.
 pub(crate) fn height_of(k: u32) -> u32
-    requires { k < 13 }
+    requires { k < slots }
     ensures height { result ≡ height_of k }
     ensures most { result ≤ 3 }
 {
@@ -246,7 +246,7 @@ pub(crate) fn height_of(k: u32) -> u32
 /// The first page that address k leads to.
 pub(crate) fn first_page(sizes: &Geometry, k: u32) -> u32
     requires sizes { IsGeometry sizes.now }
-    requires address { k < 13 }
+    requires address { k < slots }
     ensures page { result ≡ first_page sizes.now k }
     ensures pages { result + block_numbers sizes.now ^ height_of k ≤ 2 ^ 25 }
 {
