@@ -22,7 +22,8 @@ use Rattle.sv_buf.specs.Parting.{IsCut}
 use Rattle.sv_buf.specs.Stake.{opening_numbers, pass_origin}
 
 -- the held lines among those that pass a test
-pub held-filter : (p : ℕ → ℕ → Bool) (ns : List Noted) (b l : ℕ) → held_of (filter (λ n. p n.block n.line) ns) b l ≡ cond (p b l) (held_of ns b l) None
+pub held-filter : (p : ℕ → ℕ → Bool) (ns : List Noted) (b l : ℕ) → held_of (filter (λ n. p n.block n.line) ns) b l ≡ cond (p b l)
+    (held_of ns b l) None
 unfolding held_of
 held-filter p [] b l = none (p b l)
   where
@@ -32,21 +33,26 @@ held-filter p [] b l = none (p b l)
 held-filter p (n ∷ ns) b l = by (p n.block n.line) refl (is_at b l n) refl (held-filter p ns b l)
   where
     same : is_at b l n ≡ true → p b l ≡ p n.block n.line
-    same at = let parts = and_parts (n.block == b) (n.line == l) at in ap (λ q. p q l) (sym (eqb-true n.block b parts.0)) ∙ ap (p n.block) (sym (eqb-true n.line l parts.1))
+    same at = let parts = and_parts (n.block == b) (n.line == l) at in ap (λ q. p q l) (sym (eqb-true n.block b parts.0))
+        ∙ ap (p n.block) (sym (eqb-true n.line l parts.1))
 
-    by : (t : Bool) → p n.block n.line ≡ t → (u : Bool) → is_at b l n ≡ u → held_of (filter (λ m. p m.block m.line) ns) b l ≡ cond (p b l) (held_of ns b l) None
-        → held_of (cond (p n.block n.line) (n ∷ filter (λ m. p m.block m.line) ns) (filter (λ m. p m.block m.line) ns)) b l ≡ cond (p b l) (cond (is_at b l n) (Some n.bytes) (held_of ns b l)) None
+    by : (t : Bool) → p n.block n.line ≡ t → (u : Bool) → is_at b l n ≡ u
+        → held_of (filter (λ m. p m.block m.line) ns) b l ≡ cond (p b l) (held_of ns b l) None
+        → held_of (cond (p n.block n.line) (n ∷ filter (λ m. p m.block m.line) ns) (filter (λ m. p m.block m.line) ns)) b l ≡ cond
+        (p b l) (cond (is_at b l n) (Some n.bytes) (held_of ns b l)) None
     by true pt true at again =
         ap (λ t. held_of (cond t (n ∷ filter (λ m. p m.block m.line) ns) (filter (λ m. p m.block m.line) ns)) b l) pt
         ∙ (ap (λ t. cond t (Some n.bytes) (held_of (filter (λ m. p m.block m.line) ns) b l)) at
-        ∙ sym (ap (λ t. cond t (cond (is_at b l n) (Some n.bytes) (held_of ns b l)) None) (same at ∙ pt) ∙ ap (λ t. cond t (Some n.bytes) (held_of ns b l)) at))
+        ∙ sym (ap (λ t. cond t (cond (is_at b l n) (Some n.bytes) (held_of ns b l)) None) (same at ∙ pt)
+        ∙ ap (λ t. cond t (Some n.bytes) (held_of ns b l)) at))
     by true pt false at again =
         ap (λ t. held_of (cond t (n ∷ filter (λ m. p m.block m.line) ns) (filter (λ m. p m.block m.line) ns)) b l) pt
         ∙ (ap (λ t. cond t (Some n.bytes) (held_of (filter (λ m. p m.block m.line) ns) b l)) at
         ∙ (again ∙ sym (ap (λ t. cond (p b l) (cond t (Some n.bytes) (held_of ns b l)) None) at)))
     by false pt true at again =
         ap (λ t. held_of (cond t (n ∷ filter (λ m. p m.block m.line) ns) (filter (λ m. p m.block m.line) ns)) b l) pt
-        ∙ (again ∙ (ap (λ t. cond t (held_of ns b l) None) (same at ∙ pt) ∙ sym (ap (λ t. cond t (cond (is_at b l n) (Some n.bytes) (held_of ns b l)) None) (same at ∙ pt))))
+        ∙ (again ∙ (ap (λ t. cond t (held_of ns b l) None) (same at ∙ pt)
+        ∙ sym (ap (λ t. cond t (cond (is_at b l n) (Some n.bytes) (held_of ns b l)) None) (same at ∙ pt))))
     by false pt false at again =
         ap (λ t. held_of (cond t (n ∷ filter (λ m. p m.block m.line) ns) (filter (λ m. p m.block m.line) ns)) b l) pt
         ∙ (again ∙ sym (ap (λ t. cond (p b l) (cond t (Some n.bytes) (held_of ns b l)) None) at))
@@ -57,7 +63,8 @@ held-parted lines v = fun_ext (λ b. fun_ext (λ l. held-filter (in_ranges lines
 
 pub held-kept : (lines : List LineRange) (v : View) → held_of (kept_view lines v).lines ≡ rest lines (held_of v.lines)
 unfolding rest
-held-kept lines v = fun_ext (λ b. fun_ext (λ l. held-filter (λ c k. not (in_ranges lines c k)) v.lines b l ∙ turned (in_ranges lines b l) (held_of v.lines b l)))
+held-kept lines v = fun_ext (λ b. fun_ext (λ l. held-filter (λ c k. not (in_ranges lines c k)) v.lines b l
+    ∙ turned (in_ranges lines b l) (held_of v.lines b l)))
   where
     turned : (t : Bool) (o : Option (List ℕ)) → cond (not t) o None ≡ cond t None o
     turned true o = refl
@@ -76,10 +83,12 @@ or-false : (t : Bool) → t ≡ (t || false)
 or-false true = refl
 or-false false = refl
 
-pub cut-part : (lines : List LineRange) (v : View) → IsFit v → CanPart (held_of v.lines) (lent_of v.loans) lines → IsCut v (kept_view lines v) (parted_view lines v)
+pub cut-part : (lines : List LineRange) (v : View) → IsFit v → CanPart (held_of v.lines) (lent_of v.loans) lines
+    → IsCut v (kept_view lines v) (parted_view lines v)
 cut-part lines v fit can = record {
   opening = (refl, refl);
-  lines = IsPermutation-filter_both (λ (n : Noted). not (in_ranges lines n.block n.line)) (λ n. in_ranges lines n.block n.line) (λ n. twice (in_ranges lines n.block n.line)) v.lines;
+  lines = IsPermutation-filter_both (λ (n : Noted). not (in_ranges lines n.block n.line)) (λ n. in_ranges lines n.block n.line)
+      (λ n. twice (in_ranges lines n.block n.line)) v.lines;
   loans = (refl, refl);
   moving = (fit.calm, fit.calm, fit.calm);
   device = (fit.home, fit.home, fit.home);
@@ -87,8 +96,13 @@ cut-part lines v fit can = record {
   forced = or-false v.forced;
   workers = omega arith;
   some = (
-    let a = held-length (kept_view lines v).lines can.more.0 can.more.1.0 (subst (λ (o : Option (List ℕ)). IsSome o) (sym (held-filter (λ c k. not (in_ranges lines c k)) v.lines can.more.0 can.more.1.0 ∙ ap (λ t. cond (not t) (held_of v.lines can.more.0 can.more.1.0) None) can.more.1.1.1)) can.more.1.1.0) in omega arith,
-    let a = held-length (parted_view lines v).lines can.some.0 can.some.1.0 (subst (λ (o : Option (List ℕ)). IsSome o) (sym (held-filter (in_ranges lines) v.lines can.some.0 can.some.1.0 ∙ ap (λ t. cond t (held_of v.lines can.some.0 can.some.1.0) None) can.some.1.1)) (can.within can.some.0 can.some.1.0 can.some.1.1)) in omega arith,
+    let a = held-length (kept_view lines v).lines can.more.0 can.more.1.0 (subst (λ (o : Option (List ℕ)). IsSome o)
+        (sym (held-filter (λ c k. not (in_ranges lines c k)) v.lines can.more.0 can.more.1.0
+        ∙ ap (λ t. cond (not t) (held_of v.lines can.more.0 can.more.1.0) None) can.more.1.1.1)) can.more.1.1.0) in omega arith,
+    let a = held-length (parted_view lines v).lines can.some.0 can.some.1.0 (subst (λ (o : Option (List ℕ)). IsSome o)
+        (sym (held-filter (in_ranges lines) v.lines can.some.0 can.some.1.0
+        ∙ ap (λ t. cond t (held_of v.lines can.some.0 can.some.1.0) None) can.some.1.1))
+        (can.within can.some.0 can.some.1.0 can.some.1.1)) in omega arith,
   );
 }
 
@@ -97,7 +111,8 @@ fewer : (g : Geometry) (h k : Held) → ((b l : ℕ) → (t : Bool) × (k b l �
 fewer g h k sub range = record {
   block = λ b l some. range.block b l (had b l some);
   line = λ b l some. range.line b l (had b l some);
-  bytes = λ b l. let s = sub b l in subst (λ (o : Option (List ℕ)). IfSome o (λ line. length line ≡ 64)) (sym s.1) (by s.0 (h b l) (range.bytes b l));
+  bytes = λ b l. let s = sub b l in subst (λ (o : Option (List ℕ)). IfSome o (λ line. length line ≡ 64)) (sym s.1)
+      (by s.0 (h b l) (range.bytes b l));
 }
   where
     by : (t : Bool) (o : Option (List ℕ)) → IfSome o (λ line. length line ≡ 64) → IfSome (cond t o None) (λ line. length line ≡ 64)
@@ -111,19 +126,23 @@ fewer g h k sub range = record {
     had : (b l : ℕ) → IsSome (k b l) → IsSome (h b l)
     had b l some = let s = sub b l in of s.0 (h b l) (subst (λ (o : Option (List ℕ)). IsSome o) s.1 some)
 
-pub fit-kept : (lines : List LineRange) (v w : View) → w ≡ kept_view lines v → IsFit v → CanPart (held_of v.lines) (lent_of v.loans) lines → IsFit w
+pub fit-kept : (lines : List LineRange) (v w : View) → w ≡ kept_view lines v → IsFit v
+    → CanPart (held_of v.lines) (lent_of v.loans) lines → IsFit w
 fit-kept lines v w is fit can = subst IsFit (sym is) (record {
   sizes = fit.sizes;
-  range = fewer v.opening.sizes (held_of v.lines) (held_of (kept_view lines v).lines) (λ b l. (not (in_ranges lines b l), held-filter (λ c k. not (in_ranges lines c k)) v.lines b l)) fit.range;
+  range = fewer v.opening.sizes (held_of v.lines) (held_of (kept_view lines v).lines)
+      (λ b l. (not (in_ranges lines b l), held-filter (λ c k. not (in_ranges lines c k)) v.lines b l)) fit.range;
   some = (cut-part lines v fit can).some.0;
   calm = fit.calm;
   home = fit.home;
 })
 
-pub fit-parted : (lines : List LineRange) (v w : View) → w ≡ parted_view lines v → IsFit v → CanPart (held_of v.lines) (lent_of v.loans) lines → IsFit w
+pub fit-parted : (lines : List LineRange) (v w : View) → w ≡ parted_view lines v → IsFit v
+    → CanPart (held_of v.lines) (lent_of v.loans) lines → IsFit w
 fit-parted lines v w is fit can = subst IsFit (sym is) (record {
   sizes = fit.sizes;
-  range = fewer v.opening.sizes (held_of v.lines) (held_of (parted_view lines v).lines) (λ b l. (in_ranges lines b l, held-filter (in_ranges lines) v.lines b l)) fit.range;
+  range = fewer v.opening.sizes (held_of v.lines) (held_of (parted_view lines v).lines)
+      (λ b l. (in_ranges lines b l, held-filter (in_ranges lines) v.lines b l)) fit.range;
   some = (cut-part lines v fit can).some.1;
   calm = fit.calm;
   home = fit.home;
@@ -136,7 +155,8 @@ held-append [] ys = refl
 held-append (x ∷ xs) ys = fun_ext (λ b. fun_ext (λ l. by (is_at b l x) b l (ap (λ h. h b l) (held-append xs ys))))
   where
     by : (t : Bool) (b l : ℕ) → held_of (xs ++ ys) b l ≡ cond (is_some (held_of xs b l)) (held_of xs b l) (held_of ys b l)
-        → cond t (Some x.bytes) (held_of (xs ++ ys) b l) ≡ cond (is_some (cond t (Some x.bytes) (held_of xs b l))) (cond t (Some x.bytes) (held_of xs b l)) (held_of ys b l)
+        → cond t (Some x.bytes) (held_of (xs ++ ys) b l) ≡ cond (is_some (cond t (Some x.bytes) (held_of xs b l)))
+        (cond t (Some x.bytes) (held_of xs b l)) (held_of ys b l)
     by true b l again = refl
     by false b l again = again
 
@@ -145,7 +165,8 @@ pub no_loans : (xs : List Lending) → lent_of xs ≡ nothing_lent → xs ≡ []
 unfolding lent_of with
 no_loans [] e = refl
 no_loans (x ∷ xs) e =
-    let here : cond (x.block == x.block) (Some x.bytes) (lent_of xs x.block) ≡ Some x.bytes = ap (λ t. cond t (Some x.bytes) (lent_of xs x.block)) (eq-eqb x.block x.block refl) in
+    let here : cond (x.block == x.block) (Some x.bytes) (lent_of xs x.block) ≡ Some x.bytes = ap
+    (λ t. cond t (Some x.bytes) (lent_of xs x.block)) (eq-eqb x.block x.block refl) in
     let none : cond (x.block == x.block) (Some x.bytes) (lent_of xs x.block) ≡ None = ap (λ m. m x.block) e in
     absurd (let q : Some x.bytes ≡ None = sym here ∙ none in cc)
 
@@ -166,7 +187,8 @@ pub fit-merged : (v w x : View) → x ≡ merged_view v w → w.opening ≡ v.op
 unfolding Both
 fit-merged v w x is opening fit other = subst IsFit (sym is) (record {
   sizes = fit.sizes;
-  range = subst (InRange v.opening.sizes) (sym (held-append v.lines w.lines)) (both v.opening.sizes (held_of v.lines) (held_of w.lines) fit.range (subst (λ (o : Opening). InRange o.sizes (held_of w.lines)) opening other.range));
+  range = subst (InRange v.opening.sizes) (sym (held-append v.lines w.lines)) (both v.opening.sizes (held_of v.lines) (held_of w.lines)
+      fit.range (subst (λ (o : Opening). InRange o.sizes (held_of w.lines)) opening other.range));
   some = let some = fit.some in omega (arith, length-append v.lines w.lines);
   calm = fit.calm;
   home = fit.home;
@@ -183,7 +205,8 @@ fit-merged v w x is opening fit other = subst IsFit (sym is) (record {
         at P None r f g some = g some
         at P (Some y) r f g some = f refl
 
-        bytes : (o r : Option (List ℕ)) → IfSome o (λ line. length line ≡ 64) → IfSome r (λ line. length line ≡ 64) → IfSome (cond (is_some o) o r) (λ line. length line ≡ 64)
+        bytes : (o r : Option (List ℕ)) → IfSome o (λ line. length line ≡ 64) → IfSome r (λ line. length line ≡ 64)
+            → IfSome (cond (is_some o) o r) (λ line. length line ≡ 64)
         bytes None r f g = g
         bytes (Some y) r f g = f
 
@@ -192,7 +215,8 @@ pub faults-merged : (a b : ℕ) → min (a + b) last_count ≡ counted (min a la
 faults-merged a b = omega arith
 
 -- equal numbers are of equal openings and turns
-pub numbers-same : (o q : Opening) (xs ys : List ℕ) → o.sizes ≡ q.sizes → opening_numbers o ++ xs ≡ opening_numbers q ++ ys → (o ≡ q) × (xs ≡ ys)
+pub numbers-same : (o q : Opening) (xs ys : List ℕ) → o.sizes ≡ q.sizes → opening_numbers o ++ xs ≡ opening_numbers q ++ ys
+    → (o ≡ q) × (xs ≡ ys)
 numbers-same o q xs ys sizes e =
     let buffers : o.buffers ≡ q.buffers = cc in
     let reads : o.disk.reads ≡ q.disk.reads = cc in
@@ -200,11 +224,15 @@ numbers-same o q xs ys sizes e =
     let faults : o.disk.faults ≡ q.disk.faults = cc in
     let long : length o.disk.content ≡ length q.disk.content = cc in
     let all : o.disk.content ++ xs ≡ q.disk.content ++ ys = cc in
-    let content : o.disk.content ≡ q.disk.content = sym (take_front o.disk.content xs) ∙ (ap (take (length o.disk.content)) all ∙ (ap (λ n. take n (q.disk.content ++ ys)) long ∙ take_front q.disk.content ys)) in
-    let others : xs ≡ ys = sym (drop_front o.disk.content xs) ∙ (ap (drop (length o.disk.content)) all ∙ (ap (λ n. drop n (q.disk.content ++ ys)) long ∙ drop_front q.disk.content ys)) in (
+    let content : o.disk.content ≡ q.disk.content = sym (take_front o.disk.content xs) ∙ (ap (take (length o.disk.content)) all
+    ∙ (ap (λ n. take n (q.disk.content ++ ys)) long ∙ take_front q.disk.content ys)) in
+    let others : xs ≡ ys = sym (drop_front o.disk.content xs) ∙ (ap (drop (length o.disk.content)) all
+    ∙ (ap (λ n. drop n (q.disk.content ++ ys)) long ∙ drop_front q.disk.content ys)) in (
       ap (λ g. record o { sizes = g }) sizes
           ∙ (ap (λ n. record q { buffers = n; disk = o.disk }) buffers
-          ∙ ap (λ d. record q { disk = d }) (ap (λ l. record o.disk { content = l }) content ∙ (ap (λ n. record o.disk { content = q.disk.content; reads = n }) reads ∙ (ap (λ n. record q.disk { writes = n; faults = o.disk.faults }) writes ∙ ap (λ n. record q.disk { faults = n }) faults)))),
+          ∙ ap (λ d. record q { disk = d }) (ap (λ l. record o.disk { content = l }) content
+          ∙ (ap (λ n. record o.disk { content = q.disk.content; reads = n }) reads
+          ∙ (ap (λ n. record q.disk { writes = n; faults = o.disk.faults }) writes ∙ ap (λ n. record q.disk { faults = n }) faults)))),
       others,
     )
   where
@@ -217,9 +245,11 @@ numbers-same o q xs ys sizes e =
     drop_front (x ∷ xs) ys = drop_front xs ys
 
 -- what names both is one opening and one turn
-pub origin-same : {R S : Type 0} (t : Turn R S View) (p : Pass R S View) (q : Pass R S View) → IsPassOf t p → pass_origin q ≡ pass_origin p → ((pass_view q).opening ≡ (pass_view p).opening) × IsPassOf t q
+pub origin-same : {R S : Type 0} (t : Turn R S View) (p : Pass R S View) (q : Pass R S View) → IsPassOf t p
+    → pass_origin q ≡ pass_origin p → ((pass_view q).opening ≡ (pass_view p).opening) × IsPassOf t q
 origin-same t p q own e =
-    let both = numbers-same (pass_view q).opening (pass_view p).opening (pass_numbers q) (pass_numbers p) (ap (λ (o : Origin). o.sizes) e) (ap (λ (o : Origin). o.id) e) in
+    let both = numbers-same (pass_view q).opening (pass_view p).opening (pass_numbers q) (pass_numbers p)
+    (ap (λ (o : Origin). o.sizes) e) (ap (λ (o : Origin). o.id) e) in
     (both.0, same_turn t q (both.1 ∙ pass_turn t p own))
 
 pub lent-none : lent_of [] ≡ nothing_lent
@@ -230,6 +260,7 @@ pub fit-same : (v w : View) → w ≡ v → IsFit v → IsFit w
 fit-same v w is fit = subst IsFit (sym is) fit
 
 -- a stake stays fit whether its lines were cut off or not
-pub fit-split : {T E : Type 0} (r : Result T E) (lines : List LineRange) (v w : View) → OnOk r (w ≡ kept_view lines v) → OnErr r (w ≡ v) → IsFit v → CanPart (held_of v.lines) (lent_of v.loans) lines → IsFit w
+pub fit-split : {T E : Type 0} (r : Result T E) (lines : List LineRange) (v w : View) → OnOk r (w ≡ kept_view lines v) → OnErr r (w ≡ v)
+    → IsFit v → CanPart (held_of v.lines) (lent_of v.loans) lines → IsFit w
 fit-split (Ok x) lines v w left same fit can = fit-kept lines v w left fit can
 fit-split (Err x) lines v w left same fit can = fit-same v w same fit

@@ -27,11 +27,18 @@ use Rattle.sv_buf.proofs.Steps.{step, seen-changed}
 use Rattle.sv_buf.proofs.Taking.{none_out, none_out-mine, apart-away, kept-changed, Takes, takes, same-away}
 
 -- a step from one state and view that may be left with to others
-pub pending-step : {R S V : Type 0} (holds : S → List V → Type 0) (p : Pass R S V) (s t : S) (w x : V) → IsPending holds p s w → ((others : List V) → holds s (w ∷ others) → holds t (x ∷ others)) → IsPending holds p t x
-pending-step holds p s t w x h f = record { may = (h.may.0, h.may.1, λ others q. f others (h.may.2 others q)); others = h.others; so = f h.others h.so }
+pub pending-step : {R S V : Type 0} (holds : S → List V → Type 0) (p : Pass R S V) (s t : S) (w x : V) → IsPending holds p s w
+    → ((others : List V) → holds s (w ∷ others) → holds t (x ∷ others)) → IsPending holds p t x
+pending-step holds p s t w x h f = record {
+  may = (h.may.0, h.may.1, λ others q. f others (h.may.2 others q));
+  others = h.others;
+  so = f
+      h.others h.so;
+}
 
 -- a pass that came in may leave with what it found
-pub pending-entered : {R S V : Type 0} (holds : S → List V → Type 0) (p : Pass R S V) (s : S) (others : List V) → HasEntered p s → holds s (pass_view p ∷ others) → IsPending holds p s (pass_view p)
+pub pending-entered : {R S V : Type 0} (holds : S → List V → Type 0) (p : Pass R S V) (s : S) (others : List V) → HasEntered p s
+    → holds s (pass_view p ∷ others) → IsPending holds p s (pass_view p)
 pending-entered holds p s others inside so = record { may = (s, inside, λ us q. q); others = others; so = so }
 
 set-set : (xs : List Buffer) (k : ℕ) (x y : Buffer) → set (set xs k x) k y ≡ set xs k y
@@ -41,8 +48,10 @@ set-set (z ∷ zs) (suc k) x y = ap (λ (l : List Buffer). z ∷ l) (set-set zs 
 
 module _ {D : Type 0} where
   -- a free buffer whose block was looked for, with its bytes
-  hit-takes : (seen : D → Device) (s : State D) (v : View) (us : List View) (h : IsRunning seen s (v ∷ us)) (k b : ℕ) (noted : Option (List ℕ)) → IsCause s.core b (met.Hit k)
-      → IfSome noted (λ y. ((buffer_at s.core k).valid ≡ true) × ((buffer_at s.core k).bytes ≡ Some y)) → IfNone noted ((buffer_at s.core k).valid ≡ false)
+  hit-takes : (seen : D → Device) (s : State D) (v : View) (us : List View) (h : IsRunning seen s (v ∷ us)) (k b : ℕ)
+      (noted : Option (List ℕ)) → IsCause s.core b (met.Hit k)
+      → IfSome noted (λ y. ((buffer_at s.core k).valid ≡ true) × ((buffer_at s.core k).bytes ≡ Some y))
+      → IfNone noted ((buffer_at s.core k).valid ≡ false)
       → Takes s.core h.kept.current k b (record (buffer_at s.core k) { bytes = None }) noted
   hit-takes seen s v us h k b noted cause some none = record {
     free = cause.1;
@@ -59,35 +68,46 @@ module _ {D : Type 0} where
     on_device = on noted none;
   }
     where
-      noted-is : (o : Option (List ℕ)) → IfSome o (λ y. ((buffer_at s.core k).valid ≡ true) × ((buffer_at s.core k).bytes ≡ Some y)) → IfSome o (λ y. y ≡ h.kept.current b)
+      noted-is : (o : Option (List ℕ)) → IfSome o (λ y. ((buffer_at s.core k).valid ≡ true) × ((buffer_at s.core k).bytes ≡ Some y))
+          → IfSome o (λ y. y ≡ h.kept.current b)
       noted-is None q = tt
       noted-is (Some y) q = h.kept.bytes.home k b y cause.0 q.0 q.1
 
-      on : (o : Option (List ℕ)) → IfNone o ((buffer_at s.core k).valid ≡ false) → IfNone o ((record (buffer_at s.core k) { bytes = None }).delayed ≡ false)
+      on : (o : Option (List ℕ)) → IfNone o ((buffer_at s.core k).valid ≡ false)
+          → IfNone o ((record (buffer_at s.core k) { bytes = None }).delayed ≡ false)
       on None q = false_from_ne_true (is_delayed s.core k) (λ d. false≢true (sym q ∙ h.kept.bytes.delayed_valid k d))
       on (Some y) q = tt
 
-  pub hits_lent : (seen : D → Device) (s : State D) (c e : Cache D) (v : View) (us : List View) (h : IsRunning seen s (v ∷ us)) (k b : ℕ) (noted : Option (List ℕ)) → v.moving ≡ None → IsCause s.core b (met.Hit k)
+  pub hits_lent : (seen : D → Device) (s : State D) (c e : Cache D) (v : View) (us : List View) (h : IsRunning seen s (v ∷ us))
+      (k b : ℕ) (noted : Option (List ℕ)) → v.moving ≡ None → IsCause s.core b (met.Hit k)
       → c ≡ after_search s.core b (met.Hit k) → e ≡ after_lend c k → IsLawful e
-      → IfSome noted (λ y. ((buffer_at e k).valid ≡ true) × ((buffer_at c k).bytes ≡ Some y)) → IfNone noted ((buffer_at e k).valid ≡ false) → IsRunning seen (record s { core = e }) (moving_view k b noted v ∷ us)
+      → IfSome noted (λ y. ((buffer_at e k).valid ≡ true) × ((buffer_at c k).bytes ≡ Some y))
+      → IfNone noted ((buffer_at e k).valid ≡ false) → IsRunning seen (record s { core = e }) (moving_view k b noted v ∷ us)
   hits_lent seen s c e v us h k b noted calm cause searched lent lawful some none =
       let inside = named-inside s.core k b cause.0 in
       let is : e ≡ after_lend (after_search s.core b (met.Hit k)) k = lent ∙ ap (λ q. after_lend q k) searched in
-      let flag : (buffer_at e k).valid ≡ (buffer_at s.core k).valid = ap (λ q. (buffer_at q k).valid) is ∙ ap (λ (y : Buffer). y.valid) (changed-same s.core k (record (buffer_at s.core k) { bytes = None }) inside) in
+      let flag : (buffer_at e k).valid ≡ (buffer_at s.core k).valid = ap (λ q. (buffer_at q k).valid) is
+      ∙ ap (λ (y : Buffer). y.valid) (changed-same s.core k (record (buffer_at s.core k) { bytes = None }) inside) in
       let had : (buffer_at c k).bytes ≡ (buffer_at s.core k).bytes = ap (λ q. (buffer_at q k).bytes) searched in
-      takes seen s e v us h k b (record (buffer_at s.core k) { bytes = None }) noted calm (hit-takes seen s v us h k b noted cause (by noted flag had some) (at noted flag none)) is lawful
+      takes seen s e v us h k b (record (buffer_at s.core k) { bytes = None }) noted calm
+      (hit-takes seen s v us h k b noted cause (by noted flag had some) (at noted flag none)) is lawful
     where
-      by : (o : Option (List ℕ)) → (buffer_at e k).valid ≡ (buffer_at s.core k).valid → (buffer_at c k).bytes ≡ (buffer_at s.core k).bytes → IfSome o (λ y. ((buffer_at e k).valid ≡ true) × ((buffer_at c k).bytes ≡ Some y)) → IfSome o (λ y. ((buffer_at s.core k).valid ≡ true) × ((buffer_at s.core k).bytes ≡ Some y))
+      by : (o : Option (List ℕ)) → (buffer_at e k).valid ≡ (buffer_at s.core k).valid
+          → (buffer_at c k).bytes ≡ (buffer_at s.core k).bytes → IfSome o (λ y. ((buffer_at e k).valid ≡ true) ×
+          ((buffer_at c k).bytes ≡ Some y)) → IfSome o (λ y. ((buffer_at s.core k).valid ≡ true) × ((buffer_at s.core k).bytes ≡ Some y))
       by None flag had q = tt
       by (Some y) flag had q = (sym flag ∙ q.0, sym had ∙ q.1)
 
-      at : (o : Option (List ℕ)) → (buffer_at e k).valid ≡ (buffer_at s.core k).valid → IfNone o ((buffer_at e k).valid ≡ false) → IfNone o ((buffer_at s.core k).valid ≡ false)
+      at : (o : Option (List ℕ)) → (buffer_at e k).valid ≡ (buffer_at s.core k).valid → IfNone o ((buffer_at e k).valid ≡ false)
+          → IfNone o ((buffer_at s.core k).valid ≡ false)
       at None flag q = sym flag ∙ q
       at (Some y) flag q = tt
 
   -- the head of the free list, which is not still to be written, for a block that no buffer names
-  pub takes_lent : (seen : D → Device) (s : State D) (c e : Cache D) (v : View) (us : List View) (h : IsRunning seen s (v ∷ us)) (k b : ℕ) → v.moving ≡ None → 0 < weight v → b < v.opening.sizes.blocks → IsCause s.core b (met.Taken k)
-      → c ≡ after_search s.core b (met.Taken k) → e ≡ after_lend c k → IsLawful e → IsRunning seen (record s { core = e }) (moving_view k b None v ∷ us)
+  pub takes_lent : (seen : D → Device) (s : State D) (c e : Cache D) (v : View) (us : List View) (h : IsRunning seen s (v ∷ us))
+      (k b : ℕ) → v.moving ≡ None → 0 < weight v → b < v.opening.sizes.blocks → IsCause s.core b (met.Taken k)
+      → c ≡ after_search s.core b (met.Taken k) → e ≡ after_lend c k → IsLawful e
+      → IsRunning seen (record s { core = e }) (moving_view k b None v ∷ us)
   takes_lent seen s c e v us h k b calm some low cause searched lent lawful =
       let mine = All-head (IsSeen s.core h.kept.current h.kept.device h.kept.opening) v us h.each in
       let sizes : v.opening.sizes ≡ s.core.geometry = ap (λ o. o.sizes) (mine.opened some) ∙ h.kept.same_sizes in
@@ -97,10 +117,17 @@ module _ {D : Type 0} where
       let inside : k < length s.core.buffers = h.kept.lawful.one_state.in_range k free in
       let x : Buffer = record (renamed (buffer_at s.core k) b) { bytes = None } in
       let is : e ≡ after_lend (after_search s.core b (met.Taken k)) k = lent ∙ ap (λ q. after_lend q k) searched in
-      let there : buffer_at (after_search s.core b (met.Taken k)) k ≡ renamed (buffer_at s.core k) b = changed-same s.core k (renamed (buffer_at s.core k) b) inside in
-      let same : after_lend (after_search s.core b (met.Taken k)) k ≡ record (changed s.core k (record (renamed (buffer_at s.core k) b) { bytes = None })) { free = without k s.core.free } =
-      ap (λ (y : Buffer). record s.core { buffers = set (set s.core.buffers k (renamed (buffer_at s.core k) b)) k (record y { bytes = None }); free = without k s.core.free }) there
-      ∙ ap (λ l. record s.core { buffers = l; free = without k s.core.free }) (set-set s.core.buffers k (renamed (buffer_at s.core k) b) (record (renamed (buffer_at s.core k) b) { bytes = None })) in
+      let there : buffer_at (after_search s.core b (met.Taken k)) k ≡ renamed (buffer_at s.core k) b = changed-same s.core k
+      (renamed (buffer_at s.core k) b) inside in
+      let same : after_lend (after_search s.core b (met.Taken k)) k ≡ record (changed s.core k
+      (record (renamed (buffer_at s.core k) b) { bytes = None })) { free = without k s.core.free } =
+      ap (λ (y : Buffer). record s.core {
+        buffers = set (set s.core.buffers k (renamed (buffer_at s.core k) b)) k
+            (record y { bytes = None });
+        free = without k s.core.free;
+      }) there
+      ∙ ap (λ l. record s.core { buffers = l; free = without k s.core.free }) (set-set s.core.buffers k (renamed (buffer_at s.core k) b)
+      (record (renamed (buffer_at s.core k) b) { bytes = None })) in
       takes seen s e v us h k b (record (renamed (buffer_at s.core k) b) { bytes = None }) None calm
       (record {
         free = free;
@@ -118,19 +145,33 @@ module _ {D : Type 0} where
       }) (is ∙ same) lawful
 
   -- the head of the free list, which is still to be written, is queued for the worker
-  pub queues : (seen : D → Device) (s : State D) (c : Cache D) (v : View) (us : List View) (h : IsRunning seen s (v ∷ us)) (k b : ℕ) (waiting : List ℕ) → IsCause s.core b (met.Delayed k) → c ≡ after_search s.core b (met.Delayed k) → IsLawful c
-      → waiting ≡ s.requests.waiting ++ k ∷ [] → IsRunning seen (record s { core = c; requests = record s.requests { waiting = waiting } }) (v ∷ us)
+  pub queues : (seen : D → Device) (s : State D) (c : Cache D) (v : View) (us : List View) (h : IsRunning seen s (v ∷ us)) (k b : ℕ)
+      (waiting : List ℕ) → IsCause s.core b (met.Delayed k) → c ≡ after_search s.core b (met.Delayed k) → IsLawful c
+      → waiting ≡ s.requests.waiting ++ k ∷ [] → IsRunning seen (record s
+      { core = c; requests = record s.requests { waiting = waiting } }) (v ∷ us)
   queues seen s c v us h k b waiting cause searched lawful queued =
       subst (λ q. IsRunning seen (record s { core = q; requests = record s.requests { waiting = waiting } }) (v ∷ us)) (sym searched)
-      (subst (λ w. IsRunning seen (record s { core = record s.core { free = without k s.core.free }; requests = record s.requests { waiting = w } }) (v ∷ us)) (sym queued) at)
+      (subst (λ w. IsRunning seen (record s {
+        core = record s.core { free = without k s.core.free };
+        requests = record s.requests
+            { waiting = w };
+      }) (v ∷ us)) (sym queued) at)
     where
-      at : IsRunning seen (record s { core = record s.core { free = without k s.core.free }; requests = record s.requests { waiting = s.requests.waiting ++ k ∷ [] } }) (v ∷ us)
+      at : IsRunning seen (record s {
+        core = record s.core { free = without k s.core.free };
+        requests = record s.requests
+            { waiting = s.requests.waiting ++ k ∷ [] };
+      }) (v ∷ us)
       at =
           let mine = All-head (IsSeen s.core h.kept.current h.kept.device h.kept.opening) v us h.each in
           let at_head : times k s.core.free ≡ one_if (k == k) + times k cause.0.others = ap (times k) cause.0.head in
           let free : 0 < times k s.core.free = omega (arith, one-if_same k k refl) in
           let alone = none_out-mine seen s v us h k free in
-          step seen s (record s { core = record s.core { free = without k s.core.free }; requests = record s.requests { waiting = s.requests.waiting ++ k ∷ [] } }) v v us h
+          step seen s (record s {
+            core = record s.core { free = without k s.core.free };
+            requests = record s.requests
+                { waiting = s.requests.waiting ++ k ∷ [] };
+          }) v v us h
           (record {
             current = h.kept.current;
             device = h.kept.device;
@@ -141,7 +182,8 @@ module _ {D : Type 0} where
             same_count = h.kept.same_count;
             few = h.kept.few;
             room = h.kept.room;
-            bytes = current-as s.core (record s.core { free = without k s.core.free }) h.kept.current h.kept.device h.kept.device refl refl refl h.kept.bytes;
+            bytes = current-as s.core (record s.core { free = without k s.core.free }) h.kept.current h.kept.device h.kept.device refl
+                refl refl h.kept.bytes;
             device_home = h.kept.device_home;
           }) refl
           (record {
@@ -150,7 +192,8 @@ module _ {D : Type 0} where
             state = λ j. elim (cases_eq j k) [
               | inl e ↦
                   let one : one_if (k == j) ≡ 1 = one-if_same k j (sym e) in
-                  let off : times j (without k s.core.free) ≡ 0 = subst (λ i. times i (without k s.core.free) ≡ 0) (sym e) (times-without_same k s.core.free) in
+                  let off : times j (without k s.core.free) ≡ 0 = subst (λ i. times i (without k s.core.free) ≡ 0) (sym e)
+                  (times-without_same k s.core.free) in
                   let on : times j s.core.free ≡ 1 = subst (λ i. times i s.core.free ≡ 1) (sym e) alone.0 in
                   omega (arith, times-push k j s.requests.waiting)
               | inr n ↦
@@ -163,13 +206,16 @@ module _ {D : Type 0} where
             workers = refl;
           })
           (λ low. (omega arith, omega arith))
-          (seen-changed s.core h.kept.current h.kept.device (record s.core { free = without k s.core.free }) h.kept.current h.kept.device h.kept.opening v
+          (seen-changed s.core h.kept.current h.kept.device (record s.core { free = without k s.core.free }) h.kept.current
+          h.kept.device h.kept.opening v
           (λ j f out away. same-away s.core h.kept.current (without k s.core.free) s.core.device j f away) mine.lines mine.device_seen mine)
-          (λ u below q. seen-changed s.core h.kept.current h.kept.device (record s.core { free = without k s.core.free }) h.kept.current h.kept.device h.kept.opening u
+          (λ u below q. seen-changed s.core h.kept.current h.kept.device (record s.core { free = without k s.core.free }) h.kept.current
+          h.kept.device h.kept.opening u
           (λ j f out away. same-away s.core h.kept.current (without k s.core.free) s.core.device j f away) q.lines q.device_seen q)
 
   -- there is room for a buffer in the queue
-  pub has_room : (seen : D → Device) (s : State D) (v : View) (us : List View) (h : IsRunning seen s (v ∷ us)) (k b : ℕ) → IsCause s.core b (met.Delayed k) → length s.requests.waiting < s.requests.capacity
+  pub has_room : (seen : D → Device) (s : State D) (v : View) (us : List View) (h : IsRunning seen s (v ∷ us)) (k b : ℕ)
+      → IsCause s.core b (met.Delayed k) → length s.requests.waiting < s.requests.capacity
   has_room seen s v us h k b cause =
       let at_head : times k s.core.free ≡ one_if (k == k) + times k cause.0.others = ap (times k) cause.0.head in
       let free : 0 < times k s.core.free = omega (arith, one-if_same k k refl) in
@@ -180,11 +226,14 @@ module _ {D : Type 0} where
       alone.1 (h.kept.lawful.one_state.in_range k free) in
       subst (λ n. length s.requests.waiting < n) (sym h.kept.room) few
     where
-      once : (y : ℕ) (t : Bool) → times y s.core.free + times y s.requests.waiting + sum_by (outs y) (v ∷ us) ≡ one_if t → times y s.requests.waiting ≤ 1
+      once : (y : ℕ) (t : Bool) → times y s.core.free + times y s.requests.waiting + sum_by (outs y) (v ∷ us) ≡ one_if t
+          → times y s.requests.waiting ≤ 1
       once y true e = omega arith
       once y false e = omega arith
 
-      inside : (y : ℕ) (t : Bool) → nat_lt y (length s.core.buffers) ≡ t → 0 < times y s.requests.waiting → times y s.core.free + times y s.requests.waiting + sum_by (outs y) (v ∷ us) ≡ one_if (nat_lt y (length s.core.buffers)) → y < length s.core.buffers
+      inside : (y : ℕ) (t : Bool) → nat_lt y (length s.core.buffers) ≡ t → 0 < times y s.requests.waiting
+          → times y s.core.free + times y s.requests.waiting + sum_by (outs y) (v ∷ us) ≡ one_if (nat_lt y (length s.core.buffers))
+          → y < length s.core.buffers
       inside y true at on e = ltb-true y (length s.core.buffers) at
       inside y false at on e = let z : one_if (nat_lt y (length s.core.buffers)) ≡ 0 = ap one_if at in absurd (omega arith)
 
@@ -194,7 +243,8 @@ module _ {D : Type 0} where
     pub away : (buffer_at s.core k).bytes ≡ None
     pub size : s.core.geometry.block_size ≡ 1024
 
-  pub moving-here : (seen : D → Device) (s : State D) (v : View) (us : List View) (h : IsRunning seen s (v ∷ us)) (m : Moving) → v.moving ≡ Some m → MovingHere s v m.buffer
+  pub moving-here : (seen : D → Device) (s : State D) (v : View) (us : List View) (h : IsRunning seen s (v ∷ us)) (m : Moving)
+      → v.moving ≡ Some m → MovingHere s v m.buffer
   moving-here seen s v us h m at =
       let mine = All-head (IsSeen s.core h.kept.current h.kept.device h.kept.opening) v us h.each in
       let moves = subst (λ o. IfSome o (IsMoving s.core h.kept.current)) at mine.moves in
@@ -213,7 +263,8 @@ module _ {D : Type 0} where
       at_most false = omega arith
 
   -- a buffer that was not read comes back with bytes that say nothing
-  pub unread : (seen : D → Device) (s : State D) (e : Cache D) (v : View) (us : List View) (k b : ℕ) (bytes : List ℕ) (h : IsRunning seen s (moving_view k b None v ∷ us)) → v.moving ≡ None
+  pub unread : (seen : D → Device) (s : State D) (e : Cache D) (v : View) (us : List View) (k b : ℕ) (bytes : List ℕ)
+      (h : IsRunning seen s (moving_view k b None v ∷ us)) → v.moving ≡ None
       → e ≡ after_release s.core k bytes how.Invalid → IsLawful e → IsRunning seen (record s { core = e }) (v ∷ us)
   unread seen s e v us k b bytes h calm is lawful =
       subst (λ q. IsRunning seen (record s { core = q }) (v ∷ us)) (sym is) (at (subst (λ q. IsLawful q) is lawful))
@@ -222,7 +273,8 @@ module _ {D : Type 0} where
       at_most true = omega arith
       at_most false = omega arith
 
-      at : IsLawful (after_release s.core k bytes how.Invalid) → IsRunning seen (record s { core = after_release s.core k bytes how.Invalid }) (v ∷ us)
+      at : IsLawful (after_release s.core k bytes how.Invalid) → IsRunning seen (record s
+          { core = after_release s.core k bytes how.Invalid }) (v ∷ us)
       at legal =
           let mine = All-head (IsSeen s.core h.kept.current h.kept.device h.kept.opening) (moving_view k b None v) us h.each in
           let inside = named-inside s.core k b mine.moves.out.named in
@@ -232,7 +284,13 @@ module _ {D : Type 0} where
           let most = at_most (nat_lt k (length s.core.buffers)) in
           let still : moving_times k v.moving ≡ 0 = ap (moving_times k) calm in
           let none : outs k v ≡ 0 = omega arith in
-          let as_v : IsSeen s.core h.kept.current h.kept.device h.kept.opening v = record { opened = mine.opened; lent = mine.lent; moves = subst (λ m. IfSome m (IsMoving s.core h.kept.current)) (sym calm) tt; device_seen = mine.device_seen; lines = mine.lines } in
+          let as_v : IsSeen s.core h.kept.current h.kept.device h.kept.opening v = record {
+            opened = mine.opened;
+            lent = mine.lent;
+            moves = subst (λ m. IfSome m (IsMoving s.core h.kept.current)) (sym calm) tt;
+            device_seen = mine.device_seen;
+            lines = mine.lines;
+          } in
           step seen s (record s { core = after_release s.core k bytes how.Invalid }) (moving_view k b None v) v us h
           (kept-changed seen s h.kept k (released (buffer_at s.core k) bytes how.Invalid) (freed s.core.free k how.Invalid)
           (record {
@@ -245,46 +303,65 @@ module _ {D : Type 0} where
           (record {
             buffers = length-set s.core.buffers k (released (buffer_at s.core k) bytes how.Invalid);
             sizes = refl;
-            state = λ j. let quiet : moving_times j v.moving ≡ 0 = ap (moving_times j) calm in omega (arith, times-freed s.core.free k j how.Invalid);
+            state = λ j. let quiet : moving_times j v.moving ≡ 0 = ap (moving_times j) calm in omega
+                (arith, times-freed s.core.free k j how.Invalid);
             device = refl;
             lines = λ f l. refl;
             workers = refl;
           })
           (λ low. (omega arith, omega arith))
-          (seen-changed s.core h.kept.current h.kept.device (after_release s.core k bytes how.Invalid) h.kept.current h.kept.device h.kept.opening v
-          (apart-away s.core h.kept.current k (released (buffer_at s.core k) bytes how.Invalid) (freed s.core.free k how.Invalid) s.core.device v none) mine.lines mine.device_seen as_v)
-          (λ u below q. seen-changed s.core h.kept.current h.kept.device (after_release s.core k bytes how.Invalid) h.kept.current h.kept.device h.kept.opening u
-          (apart-away s.core h.kept.current k (released (buffer_at s.core k) bytes how.Invalid) (freed s.core.free k how.Invalid) s.core.device u
+          (seen-changed s.core h.kept.current h.kept.device (after_release s.core k bytes how.Invalid) h.kept.current h.kept.device
+          h.kept.opening v
+          (apart-away s.core h.kept.current k (released (buffer_at s.core k) bytes how.Invalid) (freed s.core.free k how.Invalid)
+          s.core.device v none) mine.lines mine.device_seen as_v)
+          (λ u below q. seen-changed s.core h.kept.current h.kept.device (after_release s.core k bytes how.Invalid) h.kept.current
+          h.kept.device h.kept.opening u
+          (apart-away s.core h.kept.current k (released (buffer_at s.core k) bytes how.Invalid) (freed s.core.free k how.Invalid)
+          s.core.device u
           (none_out seen s (moving_view k b None v) us h k (omega arith) u below)) q.lines q.device_seen q)
 
 module _ {R D : Type 0} where
   -- a buffer that was found by its block, lent as it is
-  pub hit-valid : (seen : D → Device) (p : Pass R (State D) View) (s : State D) (c e : Cache D) (v : View) (k b : ℕ) (bytes : List ℕ) → IsPending (IsRunning seen) p s v → v.moving ≡ None → v.device ≡ None → IsCause s.core b (met.Hit k)
-      → c ≡ after_search s.core b (met.Hit k) → e ≡ after_lend c k → IsLawful e → (buffer_at c k).bytes ≡ Some bytes → (buffer_at e k).valid ≡ true → IsPending (IsRunning seen) p (record s { core = e }) (moving_view k b (Some bytes) (calm_view v))
+  pub hit-valid : (seen : D → Device) (p : Pass R (State D) View) (s : State D) (c e : Cache D) (v : View) (k b : ℕ) (bytes : List ℕ)
+      → IsPending (IsRunning seen) p s v → v.moving ≡ None → v.device ≡ None → IsCause s.core b (met.Hit k)
+      → c ≡ after_search s.core b (met.Hit k) → e ≡ after_lend c k → IsLawful e → (buffer_at c k).bytes ≡ Some bytes
+      → (buffer_at e k).valid ≡ true → IsPending (IsRunning seen) p (record s { core = e }) (moving_view k b (Some bytes) (calm_view v))
   hit-valid seen p s c e v k b bytes pending calm home cause searched lent lawful has valid =
       pending-step (IsRunning seen) p s (record s { core = e }) v (moving_view k b (Some bytes) (calm_view v)) pending (λ others h.
       subst (λ o. IsRunning seen (record s { core = e }) (record (moving_view k b (Some bytes) v) { device = o } ∷ others)) home
       (hits_lent seen s c e v others h k b (Some bytes) calm cause searched lent lawful (valid, has) tt))
 
   -- the same, to be read
-  pub hit-invalid : (seen : D → Device) (p : Pass R (State D) View) (s : State D) (c e : Cache D) (v : View) (k b : ℕ) → IsPending (IsRunning seen) p s v → v.moving ≡ None → IsCause s.core b (met.Hit k)
-      → c ≡ after_search s.core b (met.Hit k) → e ≡ after_lend c k → IsLawful e → (buffer_at e k).valid ≡ false → IsPending (IsRunning seen) p (record s { core = e }) (moving_view k b None v)
+  pub hit-invalid : (seen : D → Device) (p : Pass R (State D) View) (s : State D) (c e : Cache D) (v : View) (k b : ℕ)
+      → IsPending (IsRunning seen) p s v → v.moving ≡ None → IsCause s.core b (met.Hit k)
+      → c ≡ after_search s.core b (met.Hit k) → e ≡ after_lend c k → IsLawful e → (buffer_at e k).valid ≡ false
+      → IsPending (IsRunning seen) p (record s { core = e }) (moving_view k b None v)
   hit-invalid seen p s c e v k b pending calm cause searched lent lawful valid =
-      pending-step (IsRunning seen) p s (record s { core = e }) v (moving_view k b None v) pending (λ others h. hits_lent seen s c e v others h k b None calm cause searched lent lawful tt valid)
+      pending-step (IsRunning seen) p s (record s { core = e }) v (moving_view k b None v) pending
+      (λ others h. hits_lent seen s c e v others h k b None calm cause searched lent lawful tt valid)
 
   -- a buffer that was taken for the block, to be read
-  pub taken-invalid : (seen : D → Device) (p : Pass R (State D) View) (s : State D) (c e : Cache D) (v : View) (k b : ℕ) → IsPending (IsRunning seen) p s v → v.moving ≡ None → 0 < weight v → b < v.opening.sizes.blocks → IsCause s.core b (met.Taken k)
-      → c ≡ after_search s.core b (met.Taken k) → e ≡ after_lend c k → IsLawful e → IsPending (IsRunning seen) p (record s { core = e }) (moving_view k b None v)
+  pub taken-invalid : (seen : D → Device) (p : Pass R (State D) View) (s : State D) (c e : Cache D) (v : View) (k b : ℕ)
+      → IsPending (IsRunning seen) p s v → v.moving ≡ None → 0 < weight v → b < v.opening.sizes.blocks → IsCause s.core b (met.Taken k)
+      → c ≡ after_search s.core b (met.Taken k) → e ≡ after_lend c k → IsLawful e
+      → IsPending (IsRunning seen) p (record s { core = e }) (moving_view k b None v)
   taken-invalid seen p s c e v k b pending calm some low cause searched lent lawful =
-      pending-step (IsRunning seen) p s (record s { core = e }) v (moving_view k b None v) pending (λ others h. takes_lent seen s c e v others h k b calm some low cause searched lent lawful)
+      pending-step (IsRunning seen) p s (record s { core = e }) v (moving_view k b None v) pending
+      (λ others h. takes_lent seen s c e v others h k b calm some low cause searched lent lawful)
 
   -- a buffer that is queued for the worker
-  pub asked : (seen : D → Device) (p : Pass R (State D) View) (s : State D) (c : Cache D) (t : State D) (v : View) (k b : ℕ) → IsPending (IsRunning seen) p s v → IsCause s.core b (met.Delayed k) → c ≡ after_search s.core b (met.Delayed k) → IsLawful c
-      → t ≡ record s { core = c; requests = record s.requests { waiting = s.requests.waiting ++ k ∷ [] } } → IsPending (IsRunning seen) p t v
+  pub asked : (seen : D → Device) (p : Pass R (State D) View) (s : State D) (c : Cache D) (t : State D) (v : View) (k b : ℕ)
+      → IsPending (IsRunning seen) p s v → IsCause s.core b (met.Delayed k) → c ≡ after_search s.core b (met.Delayed k) → IsLawful c
+      → t ≡ record s { core = c; requests = record s.requests { waiting = s.requests.waiting ++ k ∷ [] } }
+      → IsPending (IsRunning seen) p t v
   asked seen p s c t v k b pending cause searched lawful is =
       subst (λ q. IsPending (IsRunning seen) p q v) (sym is)
-      (pending-step (IsRunning seen) p s (record s { core = c; requests = record s.requests { waiting = s.requests.waiting ++ k ∷ [] } }) v v pending (λ others h. queues seen s c v others h k b (s.requests.waiting ++ k ∷ []) cause searched lawful refl))
+      (pending-step (IsRunning seen) p s (record s {
+        core = c;
+        requests = record s.requests { waiting = s.requests.waiting ++ k ∷ [] };
+      }) v v pending (λ others h. queues seen s c v others h k b (s.requests.waiting ++ k ∷ []) cause searched lawful refl))
 
 -- a search that changed nothing
-pub same_core : {D : Type 0} (seen : D → Device) (s : State D) (e : Cache D) (ws : List View) → e ≡ s.core → IsRunning seen s ws → IsRunning seen (record s { core = e }) ws
+pub same_core : {D : Type 0} (seen : D → Device) (s : State D) (e : Cache D) (ws : List View) → e ≡ s.core → IsRunning seen s ws
+    → IsRunning seen (record s { core = e }) ws
 same_core seen s e ws is h = subst (λ q. IsRunning seen (record s { core = q }) ws) (sym is) h

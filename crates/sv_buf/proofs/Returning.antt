@@ -40,7 +40,8 @@ at_most true = omega arith
 at_most false = omega arith
 
 module _ {D : Type 0} where
-  pub lent-here : (seen : D → Device) (s : State D) (v : View) (us : List View) (h : IsRunning seen s (v ∷ us)) (k b : ℕ) (bytes : List ℕ) → lent_of v.loans b ≡ Some bytes → holder s.core b ≡ Some k → LentHere s h.kept.current v k b bytes
+  pub lent-here : (seen : D → Device) (s : State D) (v : View) (us : List View) (h : IsRunning seen s (v ∷ us)) (k b : ℕ)
+      (bytes : List ℕ) → lent_of v.loans b ≡ Some bytes → holder s.core b ≡ Some k → LentHere s h.kept.current v k b bytes
   lent-here seen s v us h k b bytes lent holds =
       let mine = All-head (IsSeen s.core h.kept.current h.kept.device h.kept.opening) v us h.each in
       let f = lent-found (IsLent s.core h.kept.current) b bytes v.loans lent mine.lent in
@@ -67,17 +68,22 @@ module _ {D : Type 0} where
       }
 
   -- each loan of the view is of this buffer exactly where it is of its block
-  loans-tell : (seen : D → Device) (s : State D) (v : View) (us : List View) (h : IsRunning seen s (v ∷ us)) (k b : ℕ) (bytes : List ℕ) → LentHere s h.kept.current v k b bytes → All (Tells k b) v.loans
+  loans-tell : (seen : D → Device) (s : State D) (v : View) (us : List View) (h : IsRunning seen s (v ∷ us)) (k b : ℕ) (bytes : List ℕ)
+      → LentHere s h.kept.current v k b bytes → All (Tells k b) v.loans
   loans-tell seen s v us h k b bytes p =
       let mine = All-head (IsSeen s.core h.kept.current h.kept.device h.kept.opening) v us h.each in
       λ i d below. record {
-        block = λ e. let at : (buffer_at s.core k).block ≡ Some (get_or v.loans i d).block = subst (λ j. (buffer_at s.core j).block ≡ Some (get_or v.loans i d).block) e (mine.lent i d below).out.named in let same : Some (get_or v.loans i d).block ≡ Some b = sym at ∙ p.named in cc;
+        block = λ e. let at : (buffer_at s.core k).block ≡ Some (get_or v.loans i d).block = subst
+            (λ j. (buffer_at s.core j).block ≡ Some (get_or v.loans i d).block) e (mine.lent i d below).out.named in let same : Some
+            (get_or v.loans i d).block ≡ Some b = sym at ∙ p.named in cc;
         buffer = λ e. h.kept.lawful.one_buffer.same (get_or v.loans i d).buffer k b ((mine.lent i d below).out.named ∙ ap Some e) p.named;
       }
 
   -- what is counted of the view that gives the buffer back
-  pub back-counted : (seen : D → Device) (s : State D) (v : View) (us : List View) (h : IsRunning seen s (v ∷ us)) (k b : ℕ) (bytes : List ℕ) (way : Release) → LentHere s h.kept.current v k b bytes → v.moving ≡ None
-      → (j : ℕ) → times j s.core.free + times j s.requests.waiting + outs j v ≡ times j (freed s.core.free k way) + times j s.requests.waiting + outs j (back_view b v)
+  pub back-counted : (seen : D → Device) (s : State D) (v : View) (us : List View) (h : IsRunning seen s (v ∷ us)) (k b : ℕ)
+      (bytes : List ℕ) (way : Release) → LentHere s h.kept.current v k b bytes → v.moving ≡ None
+      → (j : ℕ) → times j s.core.free + times j s.requests.waiting + outs j v ≡ times j (freed s.core.free k way) + times j
+      s.requests.waiting + outs j (back_view b v)
   back-counted seen s v us h k b bytes way p calm j =
       let tells = loans-tell seen s v us h k b bytes p in
       let more = times-freed s.core.free k j way in
@@ -86,7 +92,8 @@ module _ {D : Type 0} where
         | inl e ↦
             let one : one_if (k == j) ≡ 1 = one-if_same k j (sym e) in
             let whole : outs j v ≡ 1 = subst (λ i. outs i v ≡ 1) (sym e) p.once in
-            let none : lent_count j (loans_without b v.loans) ≡ 0 = subst (λ i. lent_count i (loans_without b v.loans) ≡ 0) (sym e) (back-none k b v.loans tells) in
+            let none : lent_count j (loans_without b v.loans) ≡ 0 = subst (λ i. lent_count i (loans_without b v.loans) ≡ 0) (sym e)
+            (back-none k b v.loans tells) in
             omega arith
         | inr n ↦
             let none : one_if (k == j) ≡ 0 = none-if_other k j (λ q. n (sym q)) in
@@ -95,39 +102,51 @@ module _ {D : Type 0} where
       ]
 
   -- the loans that stay are of other buffers
-  pub others-apart : (seen : D → Device) (s : State D) (v : View) (us : List View) (h : IsRunning seen s (v ∷ us)) (k b : ℕ) (bytes : List ℕ) → LentHere s h.kept.current v k b bytes → (x : Lending) → x.block ≢ b → IsLent s.core h.kept.current x → x.buffer ≢ k
+  pub others-apart : (seen : D → Device) (s : State D) (v : View) (us : List View) (h : IsRunning seen s (v ∷ us)) (k b : ℕ)
+      (bytes : List ℕ) → LentHere s h.kept.current v k b bytes → (x : Lending) → x.block ≢ b → IsLent s.core h.kept.current x → x.buffer ≢ k
   others-apart seen s v us h k b bytes p x n lent = λ e.
-      n (let at : (buffer_at s.core k).block ≡ Some x.block = subst (λ j. (buffer_at s.core j).block ≡ Some x.block) e lent.out.named in let same : Some x.block ≡ Some b = sym at ∙ p.named in cc)
+      n (let at : (buffer_at s.core k).block ≡ Some x.block = subst (λ j. (buffer_at s.core j).block ≡ Some x.block) e lent.out.named in
+      let same : Some x.block ≡ Some b = sym at ∙ p.named in cc)
 
   -- a loan of another buffer is as it was
-  pub apart-lent : (c : Cache D) (current : ℕ → List ℕ) (k : ℕ) (x : Buffer) (free : List ℕ) (loan : Lending) → loan.buffer ≢ k → IsLent c current loan → IsLent (record (changed c k x) { free = free }) current loan
+  pub apart-lent : (c : Cache D) (current : ℕ → List ℕ) (k : ℕ) (x : Buffer) (free : List ℕ) (loan : Lending) → loan.buffer ≢ k
+      → IsLent c current loan → IsLent (record (changed c k x) { free = free }) current loan
   apart-lent c current k x free loan n lent =
       let same = changed-other c k loan.buffer x n in
       record {
-        out = record { named = ap (λ (y : Buffer). y.block) same ∙ lent.out.named; away = ap (λ (y : Buffer). y.bytes) same ∙ lent.out.away };
+        out = record {
+          named = ap (λ (y : Buffer). y.block) same ∙ lent.out.named;
+          away = ap (λ (y : Buffer). y.bytes) same
+              ∙ lent.out.away;
+        };
         bytes = lent.bytes;
       }
 
   -- the release of a buffer as it was: still to be written where it was so
-  released-place : (seen : D → Device) (s : State D) (v : View) (us : List View) (h : IsRunning seen s (v ∷ us)) (k b : ℕ) (bytes : List ℕ) (t : Bool) → is_delayed s.core k ≡ t → LentHere s h.kept.current v k b bytes
+  released-place : (seen : D → Device) (s : State D) (v : View) (us : List View) (h : IsRunning seen s (v ∷ us)) (k b : ℕ)
+      (bytes : List ℕ) (t : Bool) → is_delayed s.core k ≡ t → LentHere s h.kept.current v k b bytes
       → TakesPlace s.core h.kept.current k (released (buffer_at s.core k) bytes (cond t how.Delayed how.Valid))
   released-place seen s v us h k b bytes true was p = record {
     inside = p.inside;
     in_range = h.kept.bytes.in_range k;
-    home = λ e y named valid has. let same : Some e ≡ Some b = sym named ∙ p.named in let full : y ≡ bytes = cc in let at : b ≡ e = cc in full ∙ (p.current_are ∙ ap h.kept.current at);
+    home = λ e y named valid has. let same : Some e ≡ Some b = sym named
+        ∙ p.named in let full : y ≡ bytes = cc in let at : b ≡ e = cc in full ∙ (p.current_are ∙ ap h.kept.current at);
     valid = λ _. refl;
     stays = λ _. (refl, refl);
   }
   released-place seen s v us h k b bytes false was p = record {
     inside = p.inside;
     in_range = h.kept.bytes.in_range k;
-    home = λ e y named valid has. let same : Some e ≡ Some b = sym named ∙ p.named in let full : y ≡ bytes = cc in let at : b ≡ e = cc in full ∙ (p.current_are ∙ ap h.kept.current at);
+    home = λ e y named valid has. let same : Some e ≡ Some b = sym named
+        ∙ p.named in let full : y ≡ bytes = cc in let at : b ≡ e = cc in full ∙ (p.current_are ∙ ap h.kept.current at);
     valid = λ d. absurd (false≢true d);
     stays = λ d. absurd (false≢true (sym was ∙ d));
   }
 
-  returns-at : (seen : D → Device) (s : State D) (v : View) (us : List View) (h : IsRunning seen s (v ∷ us)) (k b : ℕ) (bytes : List ℕ) (way : Release) → v.moving ≡ None → LentHere s h.kept.current v k b bytes
-      → TakesPlace s.core h.kept.current k (released (buffer_at s.core k) bytes way) → IsLawful (after_release s.core k bytes way) → IsRunning seen (record s { core = after_release s.core k bytes way }) (back_view b v ∷ us)
+  returns-at : (seen : D → Device) (s : State D) (v : View) (us : List View) (h : IsRunning seen s (v ∷ us)) (k b : ℕ) (bytes : List ℕ)
+      (way : Release) → v.moving ≡ None → LentHere s h.kept.current v k b bytes
+      → TakesPlace s.core h.kept.current k (released (buffer_at s.core k) bytes way) → IsLawful (after_release s.core k bytes way)
+      → IsRunning seen (record s { core = after_release s.core k bytes way }) (back_view b v ∷ us)
   returns-at seen s v us h k b bytes way calm p place lawful =
       let mine = All-head (IsSeen s.core h.kept.current h.kept.device h.kept.opening) v us h.each in
       let x : Buffer = released (buffer_at s.core k) bytes way in
@@ -145,24 +164,33 @@ module _ {D : Type 0} where
       (record {
         opened = mine.opened;
         lent = All-without (IsLent s.core h.kept.current) (IsLent (after_release s.core k bytes way) h.kept.current) b v.loans
-            (λ loan n lent. apart-lent s.core h.kept.current k (released (buffer_at s.core k) bytes way) (freed s.core.free k way) loan (others-apart seen s v us h k b bytes p loan n lent) lent) mine.lent;
+            (λ loan n lent. apart-lent s.core h.kept.current k (released (buffer_at s.core k) bytes way) (freed s.core.free k way) loan
+            (others-apart seen s v us h k b bytes p loan n lent) lent) mine.lent;
         moves = subst (λ m. IfSome m (IsMoving (after_release s.core k bytes way) h.kept.current)) (sym calm) tt;
         device_seen = mine.device_seen;
         lines = mine.lines;
       })
-      (λ u below q. seen-changed s.core h.kept.current h.kept.device (after_release s.core k bytes way) h.kept.current h.kept.device h.kept.opening u
-      (apart-away s.core h.kept.current k (released (buffer_at s.core k) bytes way) (freed s.core.free k way) s.core.device u (none_out seen s v us h k (let o = p.once in omega arith) u below)) q.lines q.device_seen q)
+      (λ u below q. seen-changed s.core h.kept.current h.kept.device (after_release s.core k bytes way) h.kept.current h.kept.device
+      h.kept.opening u
+      (apart-away s.core h.kept.current k (released (buffer_at s.core k) bytes way) (freed s.core.free k way) s.core.device u
+      (none_out seen s v us h k (let o = p.once in omega arith) u below)) q.lines q.device_seen q)
 
   -- a block that is lent comes back as it was
-  pub returns : (seen : D → Device) (s : State D) (e : Cache D) (v : View) (us : List View) (h : IsRunning seen s (v ∷ us)) (k b : ℕ) (bytes : List ℕ) (way : Release) → v.moving ≡ None → lent_of v.loans b ≡ Some bytes → holder s.core b ≡ Some k
-      → way ≡ cond (is_delayed s.core k) how.Delayed how.Valid → e ≡ after_release s.core k bytes way → IsLawful e → IsRunning seen (record s { core = e }) (back_view b v ∷ us)
+  pub returns : (seen : D → Device) (s : State D) (e : Cache D) (v : View) (us : List View) (h : IsRunning seen s (v ∷ us)) (k b : ℕ)
+      (bytes : List ℕ) (way : Release) → v.moving ≡ None → lent_of v.loans b ≡ Some bytes → holder s.core b ≡ Some k
+      → way ≡ cond (is_delayed s.core k) how.Delayed how.Valid → e ≡ after_release s.core k bytes way → IsLawful e
+      → IsRunning seen (record s { core = e }) (back_view b v ∷ us)
   returns seen s e v us h k b bytes way calm lent holds such is lawful =
       let p = lent-here seen s v us h k b bytes lent holds in
-      let place : TakesPlace s.core h.kept.current k (released (buffer_at s.core k) bytes way) = subst (λ w. TakesPlace s.core h.kept.current k (released (buffer_at s.core k) bytes w)) (sym such) (released-place seen s v us h k b bytes (is_delayed s.core k) refl p) in
-      subst (λ q. IsRunning seen (record s { core = q }) (back_view b v ∷ us)) (sym is) (returns-at seen s v us h k b bytes way calm p place (subst (λ q. IsLawful q) is lawful))
+      let place : TakesPlace s.core h.kept.current k (released (buffer_at s.core k) bytes way) = subst
+      (λ w. TakesPlace s.core h.kept.current k (released (buffer_at s.core k) bytes w)) (sym such)
+      (released-place seen s v us h k b bytes (is_delayed s.core k) refl p) in
+      subst (λ q. IsRunning seen (record s { core = q }) (back_view b v ∷ us)) (sym is)
+      (returns-at seen s v us h k b bytes way calm p place (subst (λ q. IsLawful q) is lawful))
 
   -- the buffer of a lent block is there
-  pub lent-some : (seen : D → Device) (s : State D) (v : View) (us : List View) (h : IsRunning seen s (v ∷ us)) (b : ℕ) (bytes : List ℕ) → lent_of v.loans b ≡ Some bytes → IsSome (holder s.core b)
+  pub lent-some : (seen : D → Device) (s : State D) (v : View) (us : List View) (h : IsRunning seen s (v ∷ us)) (b : ℕ) (bytes : List ℕ)
+      → lent_of v.loans b ≡ Some bytes → IsSome (holder s.core b)
   lent-some seen s v us h b bytes lent =
       let mine = All-head (IsSeen s.core h.kept.current h.kept.device h.kept.opening) v us h.each in
       let f = lent-found (IsLent s.core h.kept.current) b bytes v.loans lent mine.lent in
@@ -171,14 +199,17 @@ module _ {D : Type 0} where
       subst (λ o. IsSome o) (sym known) refl
 
   -- a block that is lent is as long as the sizes say
-  pub lent-size : (seen : D → Device) (s : State D) (v : View) (us : List View) (h : IsRunning seen s (v ∷ us)) (k b : ℕ) (bytes : List ℕ) → 0 < weight v → lent_of v.loans b ≡ Some bytes → holder s.core b ≡ Some k → length bytes ≡ v.opening.sizes.block_size
+  pub lent-size : (seen : D → Device) (s : State D) (v : View) (us : List View) (h : IsRunning seen s (v ∷ us)) (k b : ℕ)
+      (bytes : List ℕ) → 0 < weight v → lent_of v.loans b ≡ Some bytes → holder s.core b ≡ Some k
+      → length bytes ≡ v.opening.sizes.block_size
   lent-size seen s v us h k b bytes some lent holds =
       let mine = All-head (IsSeen s.core h.kept.current h.kept.device h.kept.opening) v us h.each in
       let sizes : v.opening.sizes ≡ s.core.geometry = ap (λ o. o.sizes) (mine.opened some) ∙ h.kept.same_sizes in
       (lent-here seen s v us h k b bytes lent holds).size ∙ ap (λ g. g.block_size) (sym sizes)
 
   -- a buffer of the cache is one of those that it was opened with
-  pub counted-inside : (seen : D → Device) (s : State D) (v : View) (us : List View) (h : IsRunning seen s (v ∷ us)) (k : ℕ) → 0 < weight v → k < length s.core.buffers → k < v.opening.buffers
+  pub counted-inside : (seen : D → Device) (s : State D) (v : View) (us : List View) (h : IsRunning seen s (v ∷ us)) (k : ℕ)
+      → 0 < weight v → k < length s.core.buffers → k < v.opening.buffers
   counted-inside seen s v us h k some inside =
       let mine = All-head (IsSeen s.core h.kept.current h.kept.device h.kept.opening) v us h.each in
       let same : v.opening.buffers ≡ length s.core.buffers = ap (λ o. o.buffers) (mine.opened some) ∙ h.kept.same_count in

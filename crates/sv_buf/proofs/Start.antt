@@ -46,7 +46,8 @@ block-hits current b zero c l = sym (none (b == c))
         below : (m : ℕ) → one_if (nat_lt m 0) ≡ 0
         below m = grind (nat_tests, arith)
 block-hits current b (suc n) c l =
-    sum_by-cons (λ (x : Noted). cond (is_at c l x) 1 0) (record { block = b; line = n; bytes = line_of (current b) n }) (block_notes current b n)
+    sum_by-cons (λ (x : Noted). cond (is_at c l x) 1 0) (record { block = b; line = n; bytes = line_of (current b) n })
+    (block_notes current b n)
     ∙ (ap (λ m. one_if ((b == c) && (n == l)) + m) (block-hits current b n c l) ∙ one_more-in (b == c) n l)
 
 and-true : (p : Bool) → (p && true) ≡ p
@@ -70,7 +71,8 @@ all-hits current n zero c l = sym (ap (λ t. one_if (t && nat_lt l n)) (never c)
 all-hits current n (suc b) c l =
     sum_by-append (λ (x : Noted). cond (is_at c l x) 1 0) (block_notes current b n) (all_notes current n b)
     ∙ (ap (λ m. m + count_by (is_at c l) (all_notes current n b)) (block-hits current b n c l)
-    ∙ (ap (λ m. one_if ((b == c) && nat_lt l n) + m) (all-hits current n b c l) ∙ one_in (nat_lt l n) (b == c) (nat_lt c b) (nat_lt c (suc b)) (one_more b c)))
+    ∙ (ap (λ m. one_if ((b == c) && nat_lt l n) + m) (all-hits current n b c l)
+    ∙ one_in (nat_lt l n) (b == c) (nat_lt c b) (nat_lt c (suc b)) (one_more b c)))
 
 block-length : (current : ℕ → List ℕ) (b n : ℕ) → length (block_notes current b n) ≡ n
 unfolding block_notes
@@ -80,17 +82,24 @@ block-length current b (suc n) = ap suc (block-length current b n)
 all-length : (current : ℕ → List ℕ) (n b : ℕ) → length (all_notes current n b) ≡ n * b
 unfolding all_notes
 all-length current n zero = omega arith
-all-length current n (suc b) = omega (arith, length-append (block_notes current b n) (all_notes current n b), block-length current b n, all-length current n b)
+all-length current n (suc b) = omega (
+  arith,
+  length-append (block_notes current b n) (all_notes current n b),
+  block-length current b n,
+  all-length current n b,
+)
 
 block-current : (current : ℕ → List ℕ) (b n : ℕ) → All (IsCurrent current) (block_notes current b n)
 unfolding block_notes
 block-current current b zero = All-nil (IsCurrent current)
-block-current current b (suc n) = All-cons (IsCurrent current) (record { block = b; line = n; bytes = line_of (current b) n }) (block_notes current b n) refl (block-current current b n)
+block-current current b (suc n) = All-cons (IsCurrent current) (record { block = b; line = n; bytes = line_of (current b) n })
+    (block_notes current b n) refl (block-current current b n)
 
 all-current : (current : ℕ → List ℕ) (n b : ℕ) → All (IsCurrent current) (all_notes current n b)
 unfolding all_notes
 all-current current n zero = All-nil (IsCurrent current)
-all-current current n (suc b) = All-append (IsCurrent current) (block_notes current b n) (all_notes current n b) (block-current current b n) (all-current current n b)
+all-current current n (suc b) = All-append (IsCurrent current) (block_notes current b n) (all_notes current n b)
+    (block-current current b n) (all-current current n b)
 
 lines_by_bytes : (l : ℕ) → nat_lt l 16 ≡ nat_lt (l * 64) 1024
 lines_by_bytes l = grind (nat_tests, arith)
@@ -99,13 +108,16 @@ lines_by_bytes l = grind (nat_tests, arith)
 sixteen : (g : Geometry) → IsGeometry g → block_lines g ≡ 16
 sixteen g is = let e = is.block_size in omega arith
 
-pub whole-hits : (o : Opening) (b l : ℕ) → IsGeometry o.sizes → hits b l (whole_view o) ≡ one_if (nat_lt b o.sizes.blocks && nat_lt (l * 64) o.sizes.block_size)
+pub whole-hits : (o : Opening) (b l : ℕ) → IsGeometry o.sizes → hits b l (whole_view o) ≡ one_if
+    (nat_lt b o.sizes.blocks && nat_lt (l * 64) o.sizes.block_size)
 whole-hits o b l is =
     all-hits (block_of o.sizes o.disk.content) (block_lines o.sizes) o.sizes.blocks b l
-    ∙ ap (λ t. one_if (nat_lt b o.sizes.blocks && t)) (ap (nat_lt l) (sixteen o.sizes is) ∙ (lines_by_bytes l ∙ ap (nat_lt (l * 64)) (sym is.block_size)))
+    ∙ ap (λ t. one_if (nat_lt b o.sizes.blocks && t)) (ap (nat_lt l) (sixteen o.sizes is)
+    ∙ (lines_by_bytes l ∙ ap (nat_lt (l * 64)) (sym is.block_size)))
 
 pub whole-weight : (o : Opening) → IsGeometry o.sizes → weight (whole_view o) ≡ 16 * o.sizes.blocks + 1
-whole-weight o is = ap (λ n. n + 1) (all-length (block_of o.sizes o.disk.content) (block_lines o.sizes) o.sizes.blocks ∙ ap (λ n. n * o.sizes.blocks) (sixteen o.sizes is))
+whole-weight o is = ap (λ n. n + 1) (all-length (block_of o.sizes o.disk.content) (block_lines o.sizes) o.sizes.blocks
+    ∙ ap (λ n. n * o.sizes.blocks) (sixteen o.sizes is))
 
 pub whole-current : (o : Opening) → All (IsCurrent (block_of o.sizes o.disk.content)) (whole_view o).lines
 whole-current o = all-current (block_of o.sizes o.disk.content) (block_lines o.sizes) o.sizes.blocks
@@ -114,7 +126,8 @@ whole-current o = all-current (block_of o.sizes o.disk.content) (block_lines o.s
 pub cut-worker : (o : Opening) → IsGeometry o.sizes → IsCut (whole_view o) (lines_view o) (worker_view o)
 cut-worker o is = record {
   opening = (refl, refl);
-  lines = subst (λ xs. IsPermutation (whole_view o).lines xs) (sym (append-nil (whole_view o).lines)) (IsPermutation-refl (whole_view o).lines);
+  lines = subst (λ xs. IsPermutation (whole_view o).lines xs) (sym (append-nil (whole_view o).lines))
+      (IsPermutation-refl (whole_view o).lines);
   loans = (refl, refl);
   moving = (refl, refl, refl);
   device = (refl, refl, refl);
@@ -129,10 +142,12 @@ undelayed : {D : Type 0} (d : D) (n : ℕ) (g : Geometry) (k : ℕ) → is_delay
 undelayed d n g k =
     elim (cases_lt k n) [
       | inl h ↦ ap (λ (x : Buffer). x.delayed) (get_or-replicate n k (new_buffer g.block_size) no_buffer h)
-      | inr h ↦ ap (λ (x : Buffer). x.delayed) (get_or_past (replicate n (new_buffer g.block_size)) k no_buffer (omega (arith, length-replicate n (new_buffer g.block_size))))
+      | inr h ↦ ap (λ (x : Buffer). x.delayed) (get_or_past (replicate n (new_buffer g.block_size)) k no_buffer
+          (omega (arith, length-replicate n (new_buffer g.block_size))))
     ]
 
-length-block : (g : Geometry) (content : List ℕ) (b : ℕ) → length content ≡ g.blocks * g.block_size → b < g.blocks → length (block_of g content b) ≡ g.block_size
+length-block : (g : Geometry) (content : List ℕ) (b : ℕ) → length content ≡ g.blocks * g.block_size → b < g.blocks
+    → length (block_of g content b) ≡ g.block_size
 unfolding block_of
 length-block g content b whole below =
     let fits : b * g.block_size + g.block_size ≤ g.blocks * g.block_size = rows g.blocks b g.block_size below in
@@ -149,13 +164,17 @@ counted-once n k =
       | inr h ↦ times-range_past k 0 n (omega arith) ∙ sym (ap one_if (le-ltb k n h))
     ]
 
-pub begins : {D : Type 0} (seen : D → Device) (c : Cache D) (n : ℕ) (g : Geometry) (requests : Queue) → IsNew seen c n g → requests ≡ record { capacity = n; waiting = [] }
+pub begins : {D : Type 0} (seen : D → Device) (c : Cache D) (n : ℕ) (g : Geometry) (requests : Queue) → IsNew seen c n g
+    → requests ≡ record { capacity = n; waiting = [] }
     → IsRunning seen (record { core = c; requests = requests; stopping = false }) (whole_view (opened_with seen c) ∷ [])
 begins {D} seen c n g requests new empty =
-    subst (λ q. IsRunning seen (record { core = q; requests = requests; stopping = false }) (whole_view (opened_with seen q) ∷ [])) (sym new.is)
-    (subst (λ q. IsRunning seen (record { core = new_cache new.disk n g; requests = q; stopping = false }) (whole_view (opened_with seen (new_cache new.disk n g)) ∷ [])) (sym empty) at)
+    subst (λ q. IsRunning seen (record { core = q; requests = requests; stopping = false }) (whole_view (opened_with seen q) ∷ []))
+    (sym new.is)
+    (subst (λ q. IsRunning seen (record { core = new_cache new.disk n g; requests = q; stopping = false })
+    (whole_view (opened_with seen (new_cache new.disk n g)) ∷ [])) (sym empty) at)
   where
-    at : IsRunning seen (record { core = new_cache new.disk n g; requests = record { capacity = n; waiting = [] }; stopping = false }) (whole_view (opened_with seen (new_cache new.disk n g)) ∷ [])
+    at : IsRunning seen (record { core = new_cache new.disk n g; requests = record { capacity = n; waiting = [] }; stopping = false })
+        (whole_view (opened_with seen (new_cache new.disk n g)) ∷ [])
     at = record {
       kept = record {
         current = block_of g (seen new.disk).content;
@@ -177,21 +196,37 @@ begins {D} seen c n g requests new empty =
         };
         device_home = refl;
       };
-      each = All-cons (IsSeen (new_cache new.disk n g) (block_of g (seen new.disk).content) (seen new.disk) (opened_with seen (new_cache new.disk n g))) (whole_view (opened_with seen (new_cache new.disk n g))) [] (record {
-        opened = λ some. refl;
-        lent = All-nil (IsLent (new_cache new.disk n g) (block_of g (seen new.disk).content));
-        moves = tt;
-        device_seen = tt;
-        lines = whole-current (opened_with seen (new_cache new.disk n g));
-      }) (All-nil (IsSeen (new_cache new.disk n g) (block_of g (seen new.disk).content) (seen new.disk) (opened_with seen (new_cache new.disk n g))));
-      one_state = record { once = λ k. omega (arith, counted-once n k, ap (λ m. one_if (nat_lt k m)) (length-replicate n (new_buffer g.block_size)), sum_by-cons (outs k) (whole_view (opened_with seen (new_cache new.disk n g))) []) };
+      each = All-cons (IsSeen (new_cache new.disk n g) (block_of g (seen new.disk).content) (seen new.disk)
+          (opened_with seen (new_cache new.disk n g))) (whole_view (opened_with seen (new_cache new.disk n g))) [] (record {
+            opened = λ some. refl;
+            lent = All-nil (IsLent (new_cache new.disk n g) (block_of g (seen new.disk).content));
+            moves = tt;
+            device_seen = tt;
+            lines = whole-current (opened_with seen (new_cache new.disk n g));
+          }) (All-nil (IsSeen (new_cache new.disk n g) (block_of g (seen new.disk).content) (seen new.disk)
+          (opened_with seen (new_cache new.disk n g))));
+      one_state = record {
+        once = λ k. omega (
+          arith,
+          counted-once n k,
+          ap (λ m. one_if (nat_lt k m))
+              (length-replicate n (new_buffer g.block_size)),
+          sum_by-cons (outs k) (whole_view (opened_with seen (new_cache new.disk n g)))
+              [],
+        );
+      };
       one_device = record { once = refl };
-      lines_once = record { once = λ b l. sum_by-cons (hits b l) (whole_view (opened_with seen (new_cache new.disk n g))) [] ∙ (add-zero (hits b l (whole_view (opened_with seen (new_cache new.disk n g)))) ∙ whole-hits (opened_with seen (new_cache new.disk n g)) b l new.sizes) };
+      lines_once = record {
+        once = λ b l. sum_by-cons (hits b l) (whole_view (opened_with seen (new_cache new.disk n g))) []
+            ∙ (add-zero (hits b l (whole_view (opened_with seen (new_cache new.disk n g))))
+            ∙ whole-hits (opened_with seen (new_cache new.disk n g)) b l new.sizes);
+      };
       faults_caused = λ low. omega arith;
       one_worker = refl;
     }
 
-pub begins-weight : {D : Type 0} (seen : D → Device) (c : Cache D) (n : ℕ) (g : Geometry) → IsNew seen c n g → (0 < weight (whole_view (opened_with seen c))) × (weight (whole_view (opened_with seen c)) ≤ 2 ^ 63)
+pub begins-weight : {D : Type 0} (seen : D → Device) (c : Cache D) (n : ℕ) (g : Geometry) → IsNew seen c n g
+    → (0 < weight (whole_view (opened_with seen c))) × (weight (whole_view (opened_with seen c)) ≤ 2 ^ 63)
 begins-weight seen c n g new =
     let sizes : IsGeometry c.geometry = subst (λ q. IsGeometry q.geometry) (sym new.is) new.sizes in
     let w = whole-weight (opened_with seen c) sizes in
@@ -207,8 +242,11 @@ held-all o is = fun_ext (λ b. fun_ext (λ l. by b l (nat_lt b o.sizes.blocks &&
     value None x some are = absurd (false≢true some)
     value (Some y) x some are = ap Some (sym are)
 
-    by : (b l : ℕ) (t : Bool) → hits b l (whole_view o) ≡ one_if t → held_of (whole_view o).lines b l ≡ cond t (Some (line_of (block_of o.sizes o.disk.content b) l)) None
-    by b l true one = value (held_of (whole_view o).lines b l) (line_of (block_of o.sizes o.disk.content b) l) (held-some b l (whole_view o).lines (omega arith)) (held-current (block_of o.sizes o.disk.content) b l (whole_view o).lines (whole-current o))
+    by : (b l : ℕ) (t : Bool) → hits b l (whole_view o) ≡ one_if t → held_of (whole_view o).lines b l ≡ cond t
+        (Some (line_of (block_of o.sizes o.disk.content b) l)) None
+    by b l true one = value (held_of (whole_view o).lines b l) (line_of (block_of o.sizes o.disk.content b) l)
+        (held-some b l (whole_view o).lines (omega arith)) (held-current (block_of o.sizes o.disk.content) b l (whole_view o).lines
+        (whole-current o))
     by b l false none = held-none b l (whole_view o).lines none
 
 -- a stake may stand for all lines
@@ -217,8 +255,10 @@ unfolding of_disk
 fit-lines o is whole = record {
   sizes = is;
   range = subst (InRange o.sizes) (sym (held-all o is)) (record {
-    block = λ b l some. ltb-true b o.sizes.blocks (and_parts (nat_lt b o.sizes.blocks) (nat_lt (l * 64) o.sizes.block_size) (holds (nat_lt b o.sizes.blocks && nat_lt (l * 64) o.sizes.block_size) (line_of (block_of o.sizes o.disk.content b) l) some)).0;
-    line = λ b l some. ltb-true (l * 64) o.sizes.block_size (and_parts (nat_lt b o.sizes.blocks) (nat_lt (l * 64) o.sizes.block_size) (holds (nat_lt b o.sizes.blocks && nat_lt (l * 64) o.sizes.block_size) (line_of (block_of o.sizes o.disk.content b) l) some)).1;
+    block = λ b l some. ltb-true b o.sizes.blocks (and_parts (nat_lt b o.sizes.blocks) (nat_lt (l * 64) o.sizes.block_size)
+        (holds (nat_lt b o.sizes.blocks && nat_lt (l * 64) o.sizes.block_size) (line_of (block_of o.sizes o.disk.content b) l) some)).0;
+    line = λ b l some. ltb-true (l * 64) o.sizes.block_size (and_parts (nat_lt b o.sizes.blocks) (nat_lt (l * 64) o.sizes.block_size)
+        (holds (nat_lt b o.sizes.blocks && nat_lt (l * 64) o.sizes.block_size) (line_of (block_of o.sizes o.disk.content b) l) some)).1;
     bytes = λ b l. size b l (nat_lt b o.sizes.blocks && nat_lt (l * 64) o.sizes.block_size) refl;
   });
   some = let w = whole-weight o is in let least = is.least_blocks in omega arith;
@@ -230,7 +270,8 @@ fit-lines o is whole = record {
     holds true x some = refl
     holds false x some = absurd (false≢true some)
 
-    size : (b l : ℕ) (t : Bool) → (nat_lt b o.sizes.blocks && nat_lt (l * 64) o.sizes.block_size) ≡ t → IfSome (cond t (Some (line_of (block_of o.sizes o.disk.content b) l)) None) (λ line. length line ≡ 64)
+    size : (b l : ℕ) (t : Bool) → (nat_lt b o.sizes.blocks && nat_lt (l * 64) o.sizes.block_size) ≡ t
+        → IfSome (cond t (Some (line_of (block_of o.sizes o.disk.content b) l)) None) (λ line. length line ≡ 64)
     size b l false at = tt
     size b l true at =
         let parts = and_parts (nat_lt b o.sizes.blocks) (nat_lt (l * 64) o.sizes.block_size) at in

@@ -19,7 +19,8 @@ use Rattle.sv_buf.proofs.Steps.{step, SameAway, seen-changed}
 
 -- no other view has out what stands on the free list, waits, or is out here
 module _ {D : Type 0} where
-  pub none_out : (seen : D → Device) (s : State D) (v : View) (us : List View) (h : IsRunning seen s (v ∷ us)) (k : ℕ) → 0 < times k s.core.free + times k s.requests.waiting + outs k v
+  pub none_out : (seen : D → Device) (s : State D) (v : View) (us : List View) (h : IsRunning seen s (v ∷ us)) (k : ℕ)
+      → 0 < times k s.core.free + times k s.requests.waiting + outs k v
       → (u : View) → ((g : View → ℕ) → g u ≤ sum_by g us) → outs k u ≡ 0
   none_out seen s v us h k some u below =
       let whole = h.one_state.once k in
@@ -33,7 +34,8 @@ module _ {D : Type 0} where
       at_most false = omega arith
 
   -- the caller's own view has out nothing of what stands on the free list
-  pub none_out-mine : (seen : D → Device) (s : State D) (v : View) (us : List View) (h : IsRunning seen s (v ∷ us)) (k : ℕ) → 0 < times k s.core.free → (times k s.core.free ≡ 1) × (times k s.requests.waiting ≡ 0) × (outs k v ≡ 0)
+  pub none_out-mine : (seen : D → Device) (s : State D) (v : View) (us : List View) (h : IsRunning seen s (v ∷ us)) (k : ℕ)
+      → 0 < times k s.core.free → (times k s.core.free ≡ 1) × (times k s.requests.waiting ≡ 0) × (outs k v ≡ 0)
   none_out-mine seen s v us h k some =
       let whole = h.one_state.once k in
       let mine = sum_by-cons (outs k) v us in
@@ -57,11 +59,14 @@ module _ {D : Type 0} where
       }
 
   -- nothing of the buffers changes
-  pub same-away : (c : Cache D) (current : ℕ → List ℕ) (free : List ℕ) (device : Option D) (j b : ℕ) → IsAway c j b → SameAway c current (record c { free = free; device = device }) current j b
+  pub same-away : (c : Cache D) (current : ℕ → List ℕ) (free : List ℕ) (device : Option D) (j b : ℕ) → IsAway c j b
+      → SameAway c current (record c { free = free; device = device }) current j b
   same-away c current free device j b away = record { out = record { named = away.named; away = away.away }; delayed = refl; bytes = refl }
 
   -- what is kept where buffer k becomes x
-  abbrev pub kept-changed : (seen : D → Device) (s : State D) (h : IsKept seen s) (k : ℕ) (x : Buffer) (free : List ℕ) → TakesPlace s.core h.current k x → IsLawful (record (changed s.core k x) { free = free }) → IsKept seen (record s { core = record (changed s.core k x) { free = free } })
+  abbrev pub kept-changed : (seen : D → Device) (s : State D) (h : IsKept seen s) (k : ℕ) (x : Buffer) (free : List ℕ)
+      → TakesPlace s.core h.current k x → IsLawful (record (changed s.core k x) { free = free })
+      → IsKept seen (record s { core = record (changed s.core k x) { free = free } })
   kept-changed seen s h k x free place lawful = record {
     current = h.current;
     device = h.device;
@@ -72,7 +77,8 @@ module _ {D : Type 0} where
     same_count = h.same_count ∙ sym (length-set s.core.buffers k x);
     few = omega (arith, h.few, length-set s.core.buffers k x);
     room = h.room ∙ sym (length-set s.core.buffers k x);
-    bytes = current-as (changed s.core k x) (record (changed s.core k x) { free = free }) h.current h.device h.device refl refl refl (current-changed s.core h.current h.device k x h.bytes place);
+    bytes = current-as (changed s.core k x) (record (changed s.core k x) { free = free }) h.current h.device h.device refl refl refl
+        (current-changed s.core h.current h.device k x h.bytes place);
     device_home = h.device_home;
   }
 
@@ -85,8 +91,10 @@ module _ {D : Type 0} where
     pub bytes : IfSome noted (λ y. y ≡ current b)
     pub on_device : IfNone noted (x.delayed ≡ false)
 
-  takes-at : (seen : D → Device) (s : State D) (v : View) (us : List View) (h : IsRunning seen s (v ∷ us)) (k b : ℕ) (x : Buffer) (noted : Option (List ℕ)) → v.moving ≡ None → Takes s.core h.kept.current k b x noted
-      → IsLawful (record (changed s.core k x) { free = without k s.core.free }) → IsRunning seen (record s { core = record (changed s.core k x) { free = without k s.core.free } }) (moving_view k b noted v ∷ us)
+  takes-at : (seen : D → Device) (s : State D) (v : View) (us : List View) (h : IsRunning seen s (v ∷ us)) (k b : ℕ) (x : Buffer)
+      (noted : Option (List ℕ)) → v.moving ≡ None → Takes s.core h.kept.current k b x noted
+      → IsLawful (record (changed s.core k x) { free = without k s.core.free })
+      → IsRunning seen (record s { core = record (changed s.core k x) { free = without k s.core.free } }) (moving_view k b noted v ∷ us)
   takes-at seen s v us h k b x noted calm p lawful =
       let c = s.core in
       let mine = All-head (IsSeen s.core h.kept.current h.kept.device h.kept.opening) v us h.each in
@@ -100,7 +108,8 @@ module _ {D : Type 0} where
         state = λ j. elim (cases_eq j k) [
           | inl e ↦
               let one : one_if (k == j) ≡ 1 = one-if_same k j (sym e) in
-              let off : times j (without k s.core.free) ≡ 0 = subst (λ i. times i (without k s.core.free) ≡ 0) (sym e) (times-without_same k s.core.free) in
+              let off : times j (without k s.core.free) ≡ 0 = subst (λ i. times i (without k s.core.free) ≡ 0) (sym e)
+              (times-without_same k s.core.free) in
               let on : times j s.core.free ≡ 1 = subst (λ i. times i s.core.free ≡ 1) (sym e) alone.0 in
               let still : moving_times j v.moving ≡ 0 = ap (moving_times j) calm in
               omega arith
@@ -117,7 +126,8 @@ module _ {D : Type 0} where
       (λ low. (omega arith, omega arith))
       (record {
         opened = mine.opened;
-        lent = (seen-changed s.core h.kept.current h.kept.device (record (changed s.core k x) { free = without k s.core.free }) h.kept.current h.kept.device h.kept.opening v
+        lent = (seen-changed s.core h.kept.current h.kept.device (record (changed s.core k x) { free = without k s.core.free })
+            h.kept.current h.kept.device h.kept.opening v
             (apart-away s.core h.kept.current k x (without k s.core.free) s.core.device v alone.2) mine.lines mine.device_seen mine).lent;
         moves = record {
           out = record { named = ap (λ (y : Buffer). y.block) here ∙ p.named; away = ap (λ (y : Buffer). y.bytes) here ∙ p.gone };
@@ -127,16 +137,22 @@ module _ {D : Type 0} where
         device_seen = mine.device_seen;
         lines = mine.lines;
       })
-      (λ u below q. seen-changed s.core h.kept.current h.kept.device (record (changed s.core k x) { free = without k s.core.free }) h.kept.current h.kept.device h.kept.opening u
-      (apart-away s.core h.kept.current k x (without k s.core.free) s.core.device u (none_out seen s v us h k (omega (arith, alone.0)) u below)) q.lines q.device_seen q)
+      (λ u below q. seen-changed s.core h.kept.current h.kept.device (record (changed s.core k x) { free = without k s.core.free })
+      h.kept.current h.kept.device h.kept.opening u
+      (apart-away s.core h.kept.current k x (without k s.core.free) s.core.device u
+      (none_out seen s v us h k (omega (arith, alone.0)) u below)) q.lines q.device_seen q)
 
-  pub takes : (seen : D → Device) (s : State D) (e : Cache D) (v : View) (us : List View) (h : IsRunning seen s (v ∷ us)) (k b : ℕ) (x : Buffer) (noted : Option (List ℕ)) → v.moving ≡ None → Takes s.core h.kept.current k b x noted
-      → e ≡ record (changed s.core k x) { free = without k s.core.free } → IsLawful e → IsRunning seen (record s { core = e }) (moving_view k b noted v ∷ us)
+  pub takes : (seen : D → Device) (s : State D) (e : Cache D) (v : View) (us : List View) (h : IsRunning seen s (v ∷ us)) (k b : ℕ)
+      (x : Buffer) (noted : Option (List ℕ)) → v.moving ≡ None → Takes s.core h.kept.current k b x noted
+      → e ≡ record (changed s.core k x) { free = without k s.core.free } → IsLawful e
+      → IsRunning seen (record s { core = e }) (moving_view k b noted v ∷ us)
   takes seen s e v us h k b x noted calm p is lawful =
-      subst (λ q. IsRunning seen (record s { core = q }) (moving_view k b noted v ∷ us)) (sym is) (takes-at seen s v us h k b x noted calm p (subst (λ q. IsLawful q) is lawful))
+      subst (λ q. IsRunning seen (record s { core = q }) (moving_view k b noted v ∷ us)) (sym is)
+      (takes-at seen s v us h k b x noted calm p (subst (λ q. IsLawful q) is lawful))
 
   -- the bytes that were taken are lent
-  pub lends : (seen : D → Device) (s : State D) (v : View) (us : List View) (k b : ℕ) (bytes : List ℕ) → v.moving ≡ None → IsRunning seen s (moving_view k b (Some bytes) v ∷ us) → IsRunning seen s (lent_view k b bytes v ∷ us)
+  pub lends : (seen : D → Device) (s : State D) (v : View) (us : List View) (k b : ℕ) (bytes : List ℕ) → v.moving ≡ None
+      → IsRunning seen s (moving_view k b (Some bytes) v ∷ us) → IsRunning seen s (lent_view k b bytes v ∷ us)
   lends seen s v us k b bytes calm h =
       let w = moving_view k b (Some bytes) v in
       let mine = All-head (IsSeen s.core h.kept.current h.kept.device h.kept.opening) (moving_view k b (Some bytes) v) us h.each in
@@ -155,7 +171,8 @@ module _ {D : Type 0} where
       (λ low. (omega arith, omega arith))
       (record {
         opened = mine.opened;
-        lent = All-cons (IsLent s.core h.kept.current) (record { buffer = k; block = b; bytes = bytes }) v.loans (record { out = mine.moves.out; bytes = mine.moves.noted }) mine.lent;
+        lent = All-cons (IsLent s.core h.kept.current) (record { buffer = k; block = b; bytes = bytes }) v.loans
+            (record { out = mine.moves.out; bytes = mine.moves.noted }) mine.lent;
         moves = subst (λ m. IfSome m (IsMoving s.core h.kept.current)) (sym calm) tt;
         device_seen = mine.device_seen;
         lines = mine.lines;

@@ -46,8 +46,20 @@ kept_view lines v = record v { lines = filter (λ n. not (in_ranges lines n.bloc
 
 -- the lines that stand in the ranges, and nothing else
 abbrev pub parted_view : List LineRange → View → View
-parted_view lines v = record v { lines = filter (λ n. in_ranges lines n.block n.line) v.lines; loans = []; faults = 0; forced = false; workers = 0 }
+parted_view lines v = record v {
+  lines = filter (λ n. in_ranges lines n.block n.line) v.lines;
+  loans = [];
+  faults = 0;
+  forced = false;
+  workers = 0;
+}
 
 -- what both stand for
 abbrev pub merged_view : View → View → View
-merged_view v w = record v { lines = v.lines ++ w.lines; faults = v.faults + w.faults; forced = v.forced || w.forced; workers = v.workers + w.workers }
+merged_view v w = record v {
+  lines = v.lines ++ w.lines;
+  faults = v.faults + w.faults;
+  forced = v.forced || w.forced;
+  workers =
+      v.workers + w.workers;
+}

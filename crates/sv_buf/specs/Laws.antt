@@ -19,7 +19,8 @@ sum_of_two f a b us = omega (arith, sum_by-cons f a (b ∷ us), sum_by-cons f b 
 -- a cut of lines divides how often each is held
 pub hits-cut : (b l : ℕ) (v a c : View) → IsPermutation v.lines (a.lines ++ c.lines) → hits b l v ≡ hits b l a + hits b l c
 hits-cut b l v a c p =
-    sym (sum_by-IsPermutation (λ x. cond (is_at b l x) 1 0) v.lines (a.lines ++ c.lines) p) ∙ sum_by-append (λ x. cond (is_at b l x) 1 0) a.lines c.lines
+    sym (sum_by-IsPermutation (λ x. cond (is_at b l x) 1 0) v.lines (a.lines ++ c.lines) p)
+    ∙ sum_by-append (λ x. cond (is_at b l x) 1 0) a.lines c.lines
 
 pub length-cut : (v a c : View) → IsPermutation v.lines (a.lines ++ c.lines) → length v.lines ≡ length a.lines + length c.lines
 length-cut v a c p = sym (length_permutation v.lines (a.lines ++ c.lines) p) ∙ length-append a.lines c.lines
@@ -45,7 +46,8 @@ All-right : {A : Type 0} (P : A → Type 0) (xs ys : List A) → All P (xs ++ ys
 All-right P [] ys all = all
 All-right P (x ∷ xs) ys all = All-right P xs ys (All-tail P x (xs ++ ys) all)
 
-faults_swap : (opening : Opening) (device : Device) (xs ys : List View) → sum_by faults ys ≡ sum_by faults xs → FaultsCaused opening device xs → FaultsCaused opening device ys
+faults_swap : (opening : Opening) (device : Device) (xs ys : List View) → sum_by faults ys ≡ sum_by faults xs
+    → FaultsCaused opening device xs → FaultsCaused opening device ys
 faults_swap opening device xs ys same h = λ low. omega (arith, same, h low)
 
 module _ {D : Type 0} where
@@ -70,8 +72,10 @@ module _ {D : Type 0} where
 
   pub in_any_order : (seen : D → Device) (s : State D) (xs ys : List View) → IsPermutation xs ys → IsRunning seen s xs → IsRunning seen s ys
   in_any_order seen s xs ys p h =
-      rebuilt seen s xs ys h (λ k. sum_by-IsPermutation (outs k) xs ys p) (sum_by-IsPermutation devices xs ys p) (λ b l. sum_by-IsPermutation (hits b l) xs ys p)
-      (sum_by-IsPermutation faults xs ys p) (sum_by-IsPermutation workers xs ys p) (All-permutation (IsSeen s.core h.kept.current h.kept.device h.kept.opening) xs ys p h.each)
+      rebuilt seen s xs ys h (λ k. sum_by-IsPermutation (outs k) xs ys p) (sum_by-IsPermutation devices xs ys p)
+      (λ b l. sum_by-IsPermutation (hits b l) xs ys p)
+      (sum_by-IsPermutation faults xs ys p) (sum_by-IsPermutation workers xs ys p)
+      (All-permutation (IsSeen s.core h.kept.current h.kept.device h.kept.opening) xs ys p h.each)
 
   seen_blank : (c : Cache D) (current : ℕ → List ℕ) (device : Device) (opening : Opening) → IsSeen c current device opening blank
   seen_blank c current device opening = record {
@@ -85,44 +89,54 @@ module _ {D : Type 0} where
   pub with_blank : (seen : D → Device) (s : State D) (xs : List View) → IsRunning seen s xs → IsRunning seen s (blank ∷ xs)
   with_blank seen s xs h =
       rebuilt seen s xs (blank ∷ xs) h (λ k. omega (arith, sum_by-cons (outs k) blank xs)) (omega (arith, sum_by-cons devices blank xs))
-      (λ b l. omega (arith, sum_by-cons (hits b l) blank xs)) (omega (arith, sum_by-cons faults blank xs)) (omega (arith, sum_by-cons workers blank xs))
-      (All-cons (IsSeen s.core h.kept.current h.kept.device h.kept.opening) blank xs (seen_blank s.core h.kept.current h.kept.device h.kept.opening) h.each)
+      (λ b l. omega (arith, sum_by-cons (hits b l) blank xs)) (omega (arith, sum_by-cons faults blank xs))
+      (omega (arith, sum_by-cons workers blank xs))
+      (All-cons (IsSeen s.core h.kept.current h.kept.device h.kept.opening) blank xs
+      (seen_blank s.core h.kept.current h.kept.device h.kept.opening) h.each)
 
   pub without_blank : (seen : D → Device) (s : State D) (xs : List View) → IsRunning seen s (blank ∷ xs) → IsRunning seen s xs
   without_blank seen s xs h =
       rebuilt seen s (blank ∷ xs) xs h (λ k. omega (arith, sum_by-cons (outs k) blank xs)) (omega (arith, sum_by-cons devices blank xs))
-      (λ b l. omega (arith, sum_by-cons (hits b l) blank xs)) (omega (arith, sum_by-cons faults blank xs)) (omega (arith, sum_by-cons workers blank xs))
+      (λ b l. omega (arith, sum_by-cons (hits b l) blank xs)) (omega (arith, sum_by-cons faults blank xs))
+      (omega (arith, sum_by-cons workers blank xs))
       (All-tail (IsSeen s.core h.kept.current h.kept.device h.kept.opening) blank xs h.each)
 
   -- what the whole view notes is noted in its parts
-  seen_left : (c : Cache D) (current : ℕ → List ℕ) (device : Device) (opening : Opening) (v a b : View) → IsCut v a b → IsSeen c current device opening v → IsSeen c current device opening a
+  seen_left : (c : Cache D) (current : ℕ → List ℕ) (device : Device) (opening : Opening) (v a b : View) → IsCut v a b
+      → IsSeen c current device opening v → IsSeen c current device opening a
   seen_left c current device opening v a b cut h = record {
     opened = λ some. cut.opening.0 ∙ h.opened (omega (arith, weighs_both v a b cut));
     lent = rw cut.loans.0 h.lent;
     moves = rw cut.moving.1 tt;
     device_seen = rw cut.device.1 tt;
-    lines = All-left (IsCurrent current) a.lines b.lines (All-permutation (IsCurrent current) v.lines (a.lines ++ b.lines) cut.lines h.lines);
+    lines = All-left (IsCurrent current) a.lines b.lines (All-permutation (IsCurrent current) v.lines (a.lines ++ b.lines) cut.lines
+        h.lines);
   }
 
-  seen_right : (c : Cache D) (current : ℕ → List ℕ) (device : Device) (opening : Opening) (v a b : View) → IsCut v a b → IsSeen c current device opening v → IsSeen c current device opening b
+  seen_right : (c : Cache D) (current : ℕ → List ℕ) (device : Device) (opening : Opening) (v a b : View) → IsCut v a b
+      → IsSeen c current device opening v → IsSeen c current device opening b
   seen_right c current device opening v a b cut h = record {
     opened = λ some. cut.opening.1 ∙ h.opened (omega (arith, weighs_both v a b cut));
     lent = rw cut.loans.1 (All-nil (IsLent c current));
     moves = rw cut.moving.2 tt;
     device_seen = rw cut.device.2 tt;
-    lines = All-right (IsCurrent current) a.lines b.lines (All-permutation (IsCurrent current) v.lines (a.lines ++ b.lines) cut.lines h.lines);
+    lines = All-right (IsCurrent current) a.lines b.lines (All-permutation (IsCurrent current) v.lines (a.lines ++ b.lines) cut.lines
+        h.lines);
   }
 
-  seen_whole : (c : Cache D) (current : ℕ → List ℕ) (device : Device) (opening : Opening) (v a b : View) → IsCut v a b → IsSeen c current device opening a → IsSeen c current device opening b → IsSeen c current device opening v
+  seen_whole : (c : Cache D) (current : ℕ → List ℕ) (device : Device) (opening : Opening) (v a b : View) → IsCut v a b
+      → IsSeen c current device opening a → IsSeen c current device opening b → IsSeen c current device opening v
   seen_whole c current device opening v a b cut h k = record {
     opened = λ some. sym cut.opening.0 ∙ h.opened cut.some.0;
     lent = rw (← cut.loans.0) h.lent;
     moves = rw cut.moving.0 tt;
     device_seen = rw cut.device.0 tt;
-    lines = All-permutation (IsCurrent current) (a.lines ++ b.lines) v.lines (IsPermutation-sym v.lines (a.lines ++ b.lines) cut.lines) (All-append (IsCurrent current) a.lines b.lines h.lines k.lines);
+    lines = All-permutation (IsCurrent current) (a.lines ++ b.lines) v.lines (IsPermutation-sym v.lines (a.lines ++ b.lines) cut.lines)
+        (All-append (IsCurrent current) a.lines b.lines h.lines k.lines);
   }
 
-  pub in_two : (seen : D → Device) (s : State D) (v a b : View) (xs : List View) → IsCut v a b → IsRunning seen s (v ∷ xs) → IsRunning seen s (a ∷ b ∷ xs)
+  pub in_two : (seen : D → Device) (s : State D) (v a b : View) (xs : List View) → IsCut v a b → IsRunning seen s (v ∷ xs)
+      → IsRunning seen s (a ∷ b ∷ xs)
   in_two seen s v a b xs cut h =
       rebuilt seen s (v ∷ xs) (a ∷ b ∷ xs) h
       (λ k. omega (arith, sum_by-cons (outs k) v xs, sum_of_two (outs k) a b xs, outs-cut k v a b cut))
@@ -130,10 +144,15 @@ module _ {D : Type 0} where
       (λ c l. omega (arith, sum_by-cons (hits c l) v xs, sum_of_two (hits c l) a b xs, hits-cut c l v a b cut.lines))
       (omega (arith, sum_by-cons faults v xs, sum_of_two faults a b xs, cut.faults))
       (omega (arith, sum_by-cons workers v xs, sum_of_two workers a b xs, cut.workers))
-      (All-cons (IsSeen s.core h.kept.current h.kept.device h.kept.opening) a (b ∷ xs) (seen_left s.core h.kept.current h.kept.device h.kept.opening v a b cut (All-head (IsSeen s.core h.kept.current h.kept.device h.kept.opening) v xs h.each))
-      (All-cons (IsSeen s.core h.kept.current h.kept.device h.kept.opening) b xs (seen_right s.core h.kept.current h.kept.device h.kept.opening v a b cut (All-head (IsSeen s.core h.kept.current h.kept.device h.kept.opening) v xs h.each)) (All-tail (IsSeen s.core h.kept.current h.kept.device h.kept.opening) v xs h.each)))
+      (All-cons (IsSeen s.core h.kept.current h.kept.device h.kept.opening) a (b ∷ xs)
+      (seen_left s.core h.kept.current h.kept.device h.kept.opening v a b cut (All-head
+      (IsSeen s.core h.kept.current h.kept.device h.kept.opening) v xs h.each))
+      (All-cons (IsSeen s.core h.kept.current h.kept.device h.kept.opening) b xs (seen_right s.core h.kept.current h.kept.device
+      h.kept.opening v a b cut (All-head (IsSeen s.core h.kept.current h.kept.device h.kept.opening) v xs h.each))
+      (All-tail (IsSeen s.core h.kept.current h.kept.device h.kept.opening) v xs h.each)))
 
-  pub in_one : (seen : D → Device) (s : State D) (v a b : View) (xs : List View) → IsCut v a b → IsRunning seen s (a ∷ b ∷ xs) → IsRunning seen s (v ∷ xs)
+  pub in_one : (seen : D → Device) (s : State D) (v a b : View) (xs : List View) → IsCut v a b → IsRunning seen s (a ∷ b ∷ xs)
+      → IsRunning seen s (v ∷ xs)
   in_one seen s v a b xs cut h =
       rebuilt seen s (a ∷ b ∷ xs) (v ∷ xs) h
       (λ k. omega (arith, sum_by-cons (outs k) v xs, sum_of_two (outs k) a b xs, outs-cut k v a b cut))
@@ -142,5 +161,9 @@ module _ {D : Type 0} where
       (omega (arith, sum_by-cons faults v xs, sum_of_two faults a b xs, cut.faults))
       (omega (arith, sum_by-cons workers v xs, sum_of_two workers a b xs, cut.workers))
       (All-cons (IsSeen s.core h.kept.current h.kept.device h.kept.opening) v xs
-      (seen_whole s.core h.kept.current h.kept.device h.kept.opening v a b cut (All-head (IsSeen s.core h.kept.current h.kept.device h.kept.opening) a (b ∷ xs) h.each) (All-head (IsSeen s.core h.kept.current h.kept.device h.kept.opening) b xs (All-tail (IsSeen s.core h.kept.current h.kept.device h.kept.opening) a (b ∷ xs) h.each)))
-      (All-tail (IsSeen s.core h.kept.current h.kept.device h.kept.opening) b xs (All-tail (IsSeen s.core h.kept.current h.kept.device h.kept.opening) a (b ∷ xs) h.each)))
+      (seen_whole s.core h.kept.current h.kept.device h.kept.opening v a b cut (All-head
+      (IsSeen s.core h.kept.current h.kept.device h.kept.opening) a (b ∷ xs) h.each)
+      (All-head (IsSeen s.core h.kept.current h.kept.device h.kept.opening) b xs
+      (All-tail (IsSeen s.core h.kept.current h.kept.device h.kept.opening) a (b ∷ xs) h.each)))
+      (All-tail (IsSeen s.core h.kept.current h.kept.device h.kept.opening) b xs (All-tail
+      (IsSeen s.core h.kept.current h.kept.device h.kept.opening) a (b ∷ xs) h.each)))

@@ -50,9 +50,11 @@ pub record IsSeen {D : Type 0} (c : Cache D) (current : ℕ → List ℕ) (devic
 -- The current bytes of each block: those of its buffer where these are in and valid; those of the device where no buffer of it is
 -- still to be written.
 pub record HasCurrent {D : Type 0} (c : Cache D) (current : ℕ → List ℕ) (device : Device) : Type 0 where
-  pub home : (k b : ℕ) (y : List ℕ) → (buffer_at c k).block ≡ Some b → (buffer_at c k).valid ≡ true → (buffer_at c k).bytes ≡ Some y → y ≡ current b
+  pub home : (k b : ℕ) (y : List ℕ) → (buffer_at c k).block ≡ Some b → (buffer_at c k).valid ≡ true → (buffer_at c k).bytes ≡ Some y
+      → y ≡ current b
   pub delayed_valid : (k : ℕ) → is_delayed c k ≡ true → (buffer_at c k).valid ≡ true
-  pub clean : (b : ℕ) → b < c.geometry.blocks → ((k : ℕ) → (buffer_at c k).block ≡ Some b → is_delayed c k ≡ false) → block_of c.geometry device.content b ≡ current b
+  pub clean : (b : ℕ) → b < c.geometry.blocks → ((k : ℕ) → (buffer_at c k).block ≡ Some b → is_delayed c k ≡ false)
+      → block_of c.geometry device.content b ≡ current b
   pub in_range : (k b : ℕ) → (buffer_at c k).block ≡ Some b → b < c.geometry.blocks
   pub size : (b : ℕ) → b < c.geometry.blocks → length (current b) ≡ c.geometry.block_size
   pub whole : length device.content ≡ c.geometry.blocks * c.geometry.block_size

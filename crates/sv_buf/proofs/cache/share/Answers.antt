@@ -15,9 +15,11 @@ split-requires-clause-cuts g c =
 pub returns-in-Ok-clause-fit : goal.returns-in-Ok-clause-fit
 returns-in-Ok-clause-fit g c =
     let sizes = subst (λ z. IsGeometry z) (sym c.requires.same_sizes) c.requires.sized in
-    subst IsFit (sym (c.in-Ok.ensures.left ∙ ap (λ (v : View). record v { workers = 0 }) c.requires.whole)) (fit-lines (first_view c.args.turn).opening sizes c.requires.length)
+    subst IsFit (sym (c.in-Ok.ensures.left ∙ ap (λ (v : View). record v { workers = 0 }) c.requires.whole))
+    (fit-lines (first_view c.args.turn).opening sizes c.requires.length)
 
 pub returns-in-Ok-clause-held : goal.returns-in-Ok-clause-held
 returns-in-Ok-clause-held g c =
     let sizes = subst (λ z. IsGeometry z) (sym c.requires.same_sizes) c.requires.sized in
-    ap (λ (v : View). held_of v.lines) (c.in-Ok.ensures.left ∙ ap (λ (v : View). record v { workers = 0 }) c.requires.whole) ∙ held-all (first_view c.args.turn).opening sizes
+    ap (λ (v : View). held_of v.lines) (c.in-Ok.ensures.left ∙ ap (λ (v : View). record v { workers = 0 }) c.requires.whole)
+    ∙ held-all (first_view c.args.turn).opening sizes

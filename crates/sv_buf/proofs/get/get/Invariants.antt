@@ -6,4 +6,5 @@ use Rattle.sv_buf.proofs.get.get.Given as goal
 
 abbrev pub invariant-loop : goal.invariant-loop
 invariant-loop g l = IsPassOf l.turn l.pass × IsSamePass l.fn.pass l.pass × (pass_view l.pass ≡ pass_view l.fn.pass)
-    × IsPending (IsRunning (seen_by g.D.Medium.content g.D.Medium.reads g.D.Medium.writes g.D.Medium.faults)) l.pass l.state (pass_view l.fn.pass)
+    × IsPending (IsRunning (seen_by g.D.Medium.content g.D.Medium.reads g.D.Medium.writes g.D.Medium.faults)) l.pass l.state
+    (pass_view l.fn.pass)

@@ -19,13 +19,15 @@ leave_with-requires-clause-rule g c = (
   c.requires.taken.may.0,
   c.requires.taken.may.1,
   λ others h.
-      unread _ c.args.state c.give_back.new.self (failed_view (calm_view (pass_view c.args.pass.now))) others c.args.buffer c.args.block c.args.bytes.items (c.requires.taken.may.2 others h) refl c.give_back.ensures.after c.give_back.ensures.lawful,
+      unread _ c.args.state c.give_back.new.self (failed_view (calm_view (pass_view c.args.pass.now))) others c.args.buffer c.args.block
+      c.args.bytes.items (c.requires.taken.may.2 others h) refl c.give_back.ensures.after c.give_back.ensures.lawful,
 )
 
 pub wake-requires-2 : goal.wake-requires-2
 wake-requires-2 g c =
     let inside = (moving-here _ c.args.state _ _ c.requires.taken.so _ refl).busy.in_range in
-    let counted : c.args.buffer < (pass_view c.args.pass.now).opening.buffers = counted-inside _ c.args.state _ _ c.requires.taken.so c.args.buffer c.requires.some inside in
+    let counted : c.args.buffer < (pass_view c.args.pass.now).opening.buffers = counted-inside _ c.args.state _ _ c.requires.taken.so
+    c.args.buffer c.requires.some inside in
     omega (arith, counted, c.requires.events)
 
 pub overflow_add-buffer : goal.overflow_add-buffer

@@ -6,8 +6,13 @@ use Rattle.sv_buf.specs.Pending.{IsPending}
 use Rattle.sv_buf.proofs.read.fetch_device.Given as goal
 
 abbrev pub ghosts-leave_with_device : goal.ghosts-leave_with_device
-ghosts-leave_with_device g a = record { next = λ v. device_view (seen_by g.D.Medium.content g.D.Medium.reads g.D.Medium.writes g.D.Medium.faults a.disk.now) (moving_view a.buffer a.block None v) }
+ghosts-leave_with_device g a = record {
+  next = λ v. device_view (seen_by g.D.Medium.content g.D.Medium.reads g.D.Medium.writes
+      g.D.Medium.faults a.disk.now) (moving_view a.buffer a.block None v);
+}
 
 abbrev pub invariant-loop : goal.invariant-loop
-invariant-loop g l = IsPassOf l.turn l.pass × IsSamePass l.fn.pass l.pass × (moving_view l.buffer l.block None (pass_view l.pass) ≡ moving_view l.buffer l.block None (pass_view l.fn.pass))
-    × IsPending (IsRunning (seen_by g.D.Medium.content g.D.Medium.reads g.D.Medium.writes g.D.Medium.faults)) l.pass l.state (moving_view l.buffer l.block None (pass_view l.fn.pass))
+invariant-loop g l = IsPassOf l.turn l.pass × IsSamePass l.fn.pass l.pass × (moving_view l.buffer l.block None (pass_view l.pass) ≡
+    moving_view l.buffer l.block None (pass_view l.fn.pass))
+    × IsPending (IsRunning (seen_by g.D.Medium.content g.D.Medium.reads g.D.Medium.writes g.D.Medium.faults)) l.pass l.state
+    (moving_view l.buffer l.block None (pass_view l.fn.pass))

@@ -14,12 +14,15 @@ if_ok (Err e) P Q f p = tt
 
 pub returns-clause-ok : goal.returns-clause-ok
 returns-clause-ok g c =
-    if_ok c.get.result (λ buf. (id : List ℕ) → Gets (record { id = id; sizes = (pass_view c.args.self.now.pass).opening.sizes }) (held_of (pass_view c.args.self.now.pass).lines) c.args.b buf)
+    if_ok c.get.result (λ buf. (id : List ℕ) → Gets (record { id = id; sizes = (pass_view c.args.self.now.pass).opening.sizes })
+    (held_of (pass_view c.args.self.now.pass).lines) c.args.b buf)
     (Gets (pass_origin c.args.self.now.pass) (pass_held c.args.self.now.pass) c.args.b)
     (λ buf gets. gets (pass_origin c.args.self.now.pass).id) c.get.ensures.gets
 
 pub returns-clause-lends : goal.returns-clause-lends
 returns-clause-lends g c =
-    if_ok c.get.result (λ buf. (k : ℕ) × (pass_view c.get.new.pass ≡ lent_view k c.args.b buf.bytes (calm_view (pass_view c.args.self.now.pass))))
+    if_ok c.get.result (λ buf. (k : ℕ) × (pass_view c.get.new.pass ≡ lent_view k c.args.b buf.bytes
+    (calm_view (pass_view c.args.self.now.pass))))
     (λ buf. pass_lent c.get.new.pass ≡ with c.args.b buf.bytes (pass_lent c.args.self.now.pass))
-    (λ buf lent. ap (λ (v : View). lent_of v.loans) lent.1 ∙ lent-with lent.0 c.args.b buf.bytes (pass_view c.args.self.now.pass).loans) c.get.ensures.view
+    (λ buf lent. ap (λ (v : View). lent_of v.loans) lent.1 ∙ lent-with lent.0 c.args.b buf.bytes (pass_view c.args.self.now.pass).loans)
+    c.get.ensures.view

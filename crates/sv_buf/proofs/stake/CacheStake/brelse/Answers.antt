@@ -5,4 +5,5 @@ use Rattle.sv_buf.proofs.Lists.{lent-without}
 use Rattle.sv_buf.proofs.stake.CacheStake.brelse.Goals as goal
 
 pub returns-clause-lends : goal.returns-clause-lends
-returns-clause-lends g c = ap (λ (v : View). lent_of v.loans) c.take_back.ensures.view ∙ lent-without c.args.buf.block (pass_view c.args.self.now.pass).loans
+returns-clause-lends g c = ap (λ (v : View). lent_of v.loans) c.take_back.ensures.view
+    ∙ lent-without c.args.buf.block (pass_view c.args.self.now.pass).loans

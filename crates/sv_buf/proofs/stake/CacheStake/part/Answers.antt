@@ -8,10 +8,12 @@ pub split_lines-requires-clause-cuts : goal.split_lines-requires-clause-cuts
 split_lines-requires-clause-cuts g c = cut-part c.args.lines.now (pass_view c.args.self.now.pass) c.args.self.now.fit c.requires
 
 pub invariant_of-self-clause-fit : goal.invariant_of-self-clause-fit
-invariant_of-self-clause-fit g c = fit-split c.split_lines.result c.args.lines.now (pass_view c.args.self.now.pass) (pass_view c.split_lines.new.pass) c.split_lines.ensures.left c.split_lines.ensures.err c.args.self.now.fit c.requires
+invariant_of-self-clause-fit g c = fit-split c.split_lines.result c.args.lines.now (pass_view c.args.self.now.pass)
+    (pass_view c.split_lines.new.pass) c.split_lines.ensures.left c.split_lines.ensures.err c.args.self.now.fit c.requires
 
 pub invariant_of-result-clause-fit : goal.invariant_of-result-clause-fit
-invariant_of-result-clause-fit g c = fit-parted c.args.lines.now (pass_view c.args.self.now.pass) (pass_view c.in_ok-pass.pass) c.in_ok-pass.ensures.right.2 c.args.self.now.fit c.requires
+invariant_of-result-clause-fit g c = fit-parted c.args.lines.now (pass_view c.args.self.now.pass) (pass_view c.in_ok-pass.pass)
+    c.in_ok-pass.ensures.right.2 c.args.self.now.fit c.requires
 
 pub returns-clause-ok : goal.returns-clause-ok
 returns-clause-ok g c = record {
