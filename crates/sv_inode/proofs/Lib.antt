@@ -1,7 +1,9 @@
 mod ElevenPages
 mod Emptied
 mod FourPages
+mod FrontLines
 mod GivenBack
+mod LinePut
 mod Nodes
 mod OwnLines
 mod PageMade

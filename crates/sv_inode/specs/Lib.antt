@@ -1,5 +1,6 @@
 pub mod Contents
 pub mod Frames
+pub mod InodeLine
 pub mod Ready
 pub mod StandsFor
 pub mod Truncate
