@@ -1,6 +1,7 @@
 mod ElevenPages
 mod Emptied
 mod FourPages
+mod FoundNames
 mod FrontLines
 mod GivenBack
 mod LinePut
