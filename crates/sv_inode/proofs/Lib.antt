@@ -1,7 +1,10 @@
 mod ElevenPages
 mod Emptied
 mod FourPages
+mod FoundNames
+mod FrontLines
 mod GivenBack
+mod LinePut
 mod Nodes
 mod OwnLines
 mod PageMade

@@ -5,11 +5,14 @@
 //! - `readi` gives bytes of the node; it reads each page once and asks for the next one that is present ahead.
 //! - `writei` puts bytes into the node; it takes all blocks before it puts one.
 //! - `truncate` makes the file empty, and gives its blocks back.
+//! - `update` puts the body into the inode's line.
+//! - `look` gives the inode that a name leads to in a directory.
 #![tactic(auto)]
 
 mod cuts;
 mod fill;
 mod locked;
+mod names;
 mod range;
 mod stop;
 mod supplies;
@@ -17,6 +20,7 @@ mod supplies;
 mod tests;
 #[cfg(test)]
 mod truncate_tests;
+mod update;
 mod write;
 #[cfg(test)]
 mod write_tests;

@@ -1,0 +1,148 @@
+// The names of a directory.
+ghost use Rattle.std.specs.Prelude.{◌≡◌, ◌≤◌, ◌<◌, ◌+◌, ◌*◌, ◌/◌, ℕ, IfOk, IfSome, length, slice_index};
+ghost use Rattle.sv_form.specs.Entries.{until_zero};
+ghost use Rattle.sv_form.specs.Node.{Node, entry_inode};
+ghost use Rattle.sv_form.specs.NodeNames.{child_of, is_entry, same_bytes};
+ghost use Rattle.sv_form.specs.Number.{number16};
+ghost use Rattle.sv_form.specs.PagePath.{IsPage, greatest_size};
+ghost use Rattle.sv_store.specs.Causes.{HasFault};
+ghost use Rattle.sv_store.specs.Frames.{Unchanged};
+ghost use Rattle.sv_store.specs.Held.{nothing_lent};
+ghost use Rattle.sv_bmap.specs.Tree.{IsTree};
+ghost use Rattle.sv_inode.specs.Names.{Finds, is_named};
+ghost use Rattle.sv_inode.specs.StandsFor.{StandsFor};
+
+use crate::LockedInode;
+use std::sync::Wait;
+use sv_bmap::lookup;
+use sv_form::{ENTRY_SIZE, InodeBody, Name, number16};
+use sv_store::{Refusal, Stake};
+
+// The place of an entry, from 0, and its inode.
+type Found = (u32, u16);
+
+// How many bytes stand before the first zero byte.
+fn before_zero(bytes: &[u8]) -> usize
+    ensures within { result ≤ length bytes.now }
+    ensures before { (k : ℕ) → k < result → slice_index bytes.now k ≡ 0 → ⊥ }
+    ensures zero { result < length bytes.now → slice_index bytes.now result ≡ 0 }
+{
+    for (i, b) in bytes.iter().enumerate() {
+        if *b == 0 {
+            return i;
+        }
+    }
+    bytes.len()
+}
+
+// Whether what stands before the first zero byte is the name.
+fn same_name(field: &[u8], name: &Name) -> bool
+    ensures { result ≡ same_bytes (until_zero field.now) name.now }
+{
+    let end = before_zero(field);
+    &field[..end] == name.as_slice()
+}
+
+// Whether the entry that begins at this byte has the name.
+fn is_named(page: &[u8], name: &Name, at: usize) -> bool
+    requires { at + 16 ≤ length page.now }
+    ensures { result ≡ is_named page.now name.now at }
+{
+    number16(page, at) != 0 && same_name(&page[at + 2..at + ENTRY_SIZE], name)
+}
+
+// The first of so many entries of a page that has the name.
+fn find_named(page: &[u8], name: &Name, count: u32) -> Option<Found>
+    requires { 16 * count ≤ length page.now }
+    ensures found { Finds (λ j. is_named page.now name.now (16 * j)) (λ j. number16 page.now (16 * j)) count result }
+    ensures within { IfSome result (λ found. found.0 < count) }
+{
+    for place in 0..count {
+        let at = ENTRY_SIZE * place as usize;
+        if is_named(page, name, at) {
+            return Some((place, number16(page, at)));
+        }
+    }
+    None
+}
+
+// The first of so many entries of a page of the directory that has the name, counted from the page's first one on. A
+// hole has none.
+fn find_in_page<R: Wait, S: Stake>(
+    rt: &R,
+    body: &InodeBody,
+    s: &mut S,
+    name: &Name,
+    page: u32,
+    count: u32,
+) -> Result<Option<Found>, Refusal>
+    requires tree { IsTree (S.origin s.old) (S.held s.old) body.now.addresses }
+    requires page { IsPage (S.origin s.old).sizes page }
+    requires count { 16 * count ≤ (S.origin s.old).sizes.block_size }
+    requires lent { S.lent s.old ≡ nothing_lent }
+    ensures found { (node : Node) → StandsFor (S.origin s.old) (S.held s.old) body.now node
+        → IfOk result (Finds (λ j. is_entry (S.origin s.old).sizes.block_size node name.now (64 * page + j))
+        (λ j. entry_inode (S.origin s.old).sizes.block_size node (64 * page + j)) count) }
+    ensures within { IfOk result (λ found. IfSome found (λ found. found.0 < count)) }
+    ensures stake { Unchanged S.held S.lent S.origin S.forced s.old s.new }
+    ensures cause { HasFault (S.faults s.old) (S.faults s.new) result }
+{
+    let _sizes = s.geometry();
+    let block = lookup(rt, &body.addresses, s, page)?;
+    let Some(b) = block else {
+        return Ok(None);
+    };
+    let buf = s.bread(rt, b)?;
+    let bytes = buf.bytes();
+    let found = find_named(bytes, name, count);
+    s.brelse(rt, buf);
+    Ok(found)
+}
+
+// The first entry of the directory that has the name (Bach, chapter 4.4, algorithm namei), page by page.
+fn find_entry<R: Wait, S: Stake>(
+    rt: &R,
+    body: &InodeBody,
+    s: &mut S,
+    name: &Name,
+) -> Result<Option<Found>, Refusal>
+    requires tree { IsTree (S.origin s.old) (S.held s.old) body.now.addresses }
+    requires size { body.now.size ≤ greatest_size (S.origin s.old).sizes }
+    requires lent { S.lent s.old ≡ nothing_lent }
+    ensures found { (node : Node) → StandsFor (S.origin s.old) (S.held s.old) body.now node
+        → IfOk result (Finds (is_entry (S.origin s.old).sizes.block_size node name.now)
+        (entry_inode (S.origin s.old).sizes.block_size node) (body.now.size / 16)) }
+    ensures stake { Unchanged S.held S.lent S.origin S.forced s.old s.new }
+    ensures cause { HasFault (S.faults s.old) (S.faults s.new) result }
+{
+    let sizes = s.geometry();
+    let pages = body.size.div_ceil(sizes.block_size);
+    for page in 0..pages {
+        let count = (body.size - page * sizes.block_size).min(sizes.block_size) / 16;
+        if let Some((place, inode)) = find_in_page(rt, body, s, name, page, count)? {
+            return Ok(Some((64 * page + place, inode)));
+        }
+    }
+    Ok(None)
+}
+
+impl<S: Stake> LockedInode<S> {
+    /// The inode that the name leads to in the directory (Bach, chapter 4.4, algorithm namei), that of the first entry
+    /// with the name. Each page is read once, and no memory is taken. A refusal is a fault that the stake has counted.
+    pub fn look<R: Wait>(&mut self, rt: &R, name: &Name) -> Result<Option<u16>, Refusal>
+        requires tree { IsTree (S.origin self.old.stake) (S.held self.old.stake) self.old.body.addresses }
+        requires size { self.old.body.size ≤ greatest_size (S.origin self.old.stake).sizes }
+        requires lent { S.lent self.old.stake ≡ nothing_lent }
+        ensures found { (node : Node) → StandsFor (S.origin self.old.stake) (S.held self.old.stake) self.old.body node
+            → IfOk result (λ found. found ≡ child_of (S.origin self.old.stake).sizes.block_size node name.now) }
+        ensures number { self.new.number ≡ self.old.number }
+        ensures body { self.new.body ≡ self.old.body }
+        ensures stake { Unchanged S.held S.lent S.origin S.forced self.old.stake self.new.stake }
+        ensures cause { HasFault (S.faults self.old.stake) (S.faults self.new.stake) result }
+    {
+        match find_entry(rt, &self.body, &mut self.stake, name)? {
+            Some((_, inode)) => Ok(Some(inode)),
+            None => Ok(None),
+        }
+    }
+}
