@@ -1,5 +1,6 @@
 -- The rule of the running cache: what holds of the state and of all views whenever the turn is free.
-use Rattle.std.specs.Prelude.{◌≡◌, ◌+◌, ◌*◌, ◌<◌, ◌≤◌, ◌&&◌, ℕ, true, false, List, length, sum_by, Some, None, is_some, IfSome, IfNone, nat_lt}
+use Rattle.std.specs.Prelude.{◌≡◌, ◌+◌, ◌*◌, ◌<◌, ◌≤◌, ◌&&◌, ℕ, true, false, List, length, sum_by, Some, None, is_some, IfSome, IfNone}
+use Rattle.std.specs.Prelude.{nat_lt}
 use Rattle.std.specs.List.{All}
 use Rattle.sv_dev.specs.Causes.{last_count}
 use Rattle.sv_form.specs.Geometry.{IsGeometry}

@@ -44,11 +44,14 @@ impl<D: Disk> Cache<D> {
         requires geometry { IsGeometry geometry }
         requires length { length (D.content disk) ≡ geometry.blocks * geometry.block_size }
         requires buffers { IsBufferCount buffers }
-        ensures opening { IfOk result (λ r. first_view r.0.turn ≡ whole_view (record { sizes = geometry; buffers = buffers; disk = seen_by D.content D.reads D.writes D.faults disk })) }
+        ensures opening { IfOk result (λ r. first_view r.0.turn ≡ whole_view
+            (record { sizes = geometry; buffers = buffers; disk = seen_by D.content D.reads D.writes D.faults disk })) }
         ensures first { IfOk result (λ r. IsPassOf r.0.turn r.1 × IsOut r.1 × (pass_view r.1 ≡ lines_view (first_view r.0.turn).opening)) }
-        ensures worker { IfOk result (λ r. IsPassOf r.0.turn r.2 × IsOut r.2 × (pass_view r.2 ≡ worker_view (first_view r.0.turn).opening)) }
+        ensures worker { IfOk result (λ r. IsPassOf r.0.turn r.2 × IsOut r.2
+            × (pass_view r.2 ≡ worker_view (first_view r.0.turn).opening)) }
         ensures fit { IfOk result (λ r. IsFit (pass_view r.1)) }
-        ensures held { IfOk result (λ r. pass_held r.1 ≡ of_disk (first_view r.0.turn).opening.sizes (first_view r.0.turn).opening.disk.content) }
+        ensures held { IfOk result (λ r. pass_held r.1 ≡ of_disk (first_view r.0.turn).opening.sizes
+            (first_view r.0.turn).opening.disk.content) }
     {
         match CacheCore::new(alloc, disk, buffers, geometry) {
             Ok(core) => open(alloc, core, buffers, geometry),
@@ -82,7 +85,8 @@ fn open<D: Medium>(
     ensures first { IfOk result (λ r. IsPassOf r.0.turn r.1 × IsOut r.1 × (pass_view r.1 ≡ lines_view (first_view r.0.turn).opening)) }
     ensures worker { IfOk result (λ r. IsPassOf r.0.turn r.2 × IsOut r.2 × (pass_view r.2 ≡ worker_view (first_view r.0.turn).opening)) }
     ensures fit { IfOk result (λ r. IsFit (pass_view r.1)) }
-    ensures held { IfOk result (λ r. pass_held r.1 ≡ of_disk (first_view r.0.turn).opening.sizes (first_view r.0.turn).opening.disk.content) }
+    ensures held { IfOk result (λ r. pass_held r.1 ≡ of_disk (first_view r.0.turn).opening.sizes
+        (first_view r.0.turn).opening.disk.content) }
 {
     let Ok(requests) = Requests::new(alloc, buffers) else {
         return Err((core.into_device().unwrap(), NoMemory));
@@ -111,12 +115,14 @@ fn share<D: Medium>(
     requires sized { IsGeometry sizes }
     requires same_sizes { (first_view turn).opening.sizes ≡ sizes }
     requires events { turn_events turn ≡ (first_view turn).opening.buffers + 3 }
-    requires length { length (first_view turn).opening.disk.content ≡ (first_view turn).opening.sizes.blocks * (first_view turn).opening.sizes.block_size }
+    requires length { length (first_view turn).opening.disk.content ≡ (first_view turn).opening.sizes.blocks *
+        (first_view turn).opening.sizes.block_size }
     ensures same { IfOk result (λ r. first_view r.0.turn ≡ first_view turn) }
     ensures first { IfOk result (λ r. IsPassOf r.0.turn r.1 × IsOut r.1 × (pass_view r.1 ≡ lines_view (first_view r.0.turn).opening)) }
     ensures worker { IfOk result (λ r. IsPassOf r.0.turn r.2 × IsOut r.2 × (pass_view r.2 ≡ worker_view (first_view r.0.turn).opening)) }
     ensures fit { IfOk result (λ r. IsFit (pass_view r.1)) }
-    ensures held { IfOk result (λ r. pass_held r.1 ≡ of_disk (first_view r.0.turn).opening.sizes (first_view r.0.turn).opening.disk.content) }
+    ensures held { IfOk result (λ r. pass_held r.1 ≡ of_disk (first_view r.0.turn).opening.sizes
+        (first_view r.0.turn).opening.disk.content) }
 {
     match turn.split::<Brand>(&mut first) {
         Ok(worker) => Ok((Cache { turn, sizes }, first, worker)),

@@ -32,10 +32,12 @@ fn lend_out<D: Medium>(
 ) -> Buf
     requires own { IsPassOf turn.now pass.old }
     requires some { 0 < weight (pass_view pass.old) }
-    requires taken { IsPending (IsRunning (seen_by D.content D.reads D.writes D.faults)) pass.old state (moving_view buffer block (Some bytes.items) (calm_view (pass_view pass.old))) }
+    requires taken { IsPending (IsRunning (seen_by D.content D.reads D.writes D.faults)) pass.old state
+        (moving_view buffer block (Some bytes.items) (calm_view (pass_view pass.old))) }
     ensures same { IsSamePass pass.old pass.new × IsOut pass.new }
     ensures view { pass_view pass.new ≡ lent_view buffer block result.bytes (calm_view (pass_view pass.old)) }
-    ensures gets { (id : List ℕ) → Gets (record { id = id; sizes = (pass_view pass.old).opening.sizes }) (held_of (pass_view pass.old).lines) block result }
+    ensures gets { (id : List ℕ) → Gets (record { id = id; sizes = (pass_view pass.old).opening.sizes })
+        (held_of (pass_view pass.old).lines) block result }
 {
     leave_with::<Brand, D>(turn, pass, state, buffer, block, bytes.as_slice());
     Buf::new(block, bytes)
@@ -54,7 +56,8 @@ fn give_unread<D: Medium>(
     requires size { vec_len bytes ≡ 1024 }
     requires events { turn_events turn.now ≡ (pass_view pass.old).opening.buffers + 3 }
     requires some { 0 < weight (pass_view pass.old) }
-    requires taken { IsPending (IsRunning (seen_by D.content D.reads D.writes D.faults)) pass.old state (moving_view buffer block None (failed_view (calm_view (pass_view pass.old)))) }
+    requires taken { IsPending (IsRunning (seen_by D.content D.reads D.writes D.faults)) pass.old state
+        (moving_view buffer block None (failed_view (calm_view (pass_view pass.old)))) }
     ensures same { IsSamePass pass.old pass.new × IsOut pass.new }
     ensures view { pass_view pass.new ≡ failed_view (calm_view (pass_view pass.old)) }
 {
@@ -79,10 +82,12 @@ fn read_in<R: Wait, D: Medium>(
     requires fit { IsFit (pass_view pass.old) }
     requires inside { block < (pass_view pass.old).opening.sizes.blocks }
     requires events { turn_events turn.now ≡ (pass_view pass.old).opening.buffers + 3 }
-    requires taken { IsPending (IsRunning (seen_by D.content D.reads D.writes D.faults)) pass.old state (moving_view buffer block None (pass_view pass.old)) }
+    requires taken { IsPending (IsRunning (seen_by D.content D.reads D.writes D.faults)) pass.old state
+        (moving_view buffer block None (pass_view pass.old)) }
     ensures same { IsSamePass pass.old pass.new × IsOut pass.new }
     ensures view { IfOk result (λ buf. pass_view pass.new ≡ lent_view buffer block buf.bytes (calm_view (pass_view pass.old))) }
-    ensures gets { IfOk result (λ buf. (id : List ℕ) → Gets (record { id = id; sizes = (pass_view pass.old).opening.sizes }) (held_of (pass_view pass.old).lines) block buf) }
+    ensures gets { IfOk result (λ buf. (id : List ℕ) → Gets (record { id = id; sizes = (pass_view pass.old).opening.sizes })
+        (held_of (pass_view pass.old).lines) block buf) }
     ensures err { IfErr result (λ e. (e ≡ Fault) × (pass_view pass.new ≡ failed_view (calm_view (pass_view pass.old)))) }
 {
     let mut disk = fetch_device(rt, turn, pass, state, buffer, block);
@@ -115,11 +120,14 @@ fn lend_or_read<R: Wait, D: Medium>(
     requires inside { block < (pass_view pass.old).opening.sizes.blocks }
     requires events { turn_events turn.now ≡ (pass_view pass.old).opening.buffers + 3 }
     requires found { buffer < length state.core.buffers }
-    requires valid { (buffer_at state.core buffer).valid ≡ true → IsPending (IsRunning (seen_by D.content D.reads D.writes D.faults)) pass.old state (moving_view buffer block (Some bytes.items) (calm_view (pass_view pass.old))) }
-    requires invalid { (buffer_at state.core buffer).valid ≡ false → IsPending (IsRunning (seen_by D.content D.reads D.writes D.faults)) pass.old state (moving_view buffer block None (pass_view pass.old)) }
+    requires valid { (buffer_at state.core buffer).valid ≡ true → IsPending (IsRunning (seen_by D.content D.reads D.writes D.faults))
+        pass.old state (moving_view buffer block (Some bytes.items) (calm_view (pass_view pass.old))) }
+    requires invalid { (buffer_at state.core buffer).valid ≡ false → IsPending (IsRunning (seen_by D.content D.reads D.writes D.faults))
+        pass.old state (moving_view buffer block None (pass_view pass.old)) }
     ensures same { IsSamePass pass.old pass.new × IsOut pass.new }
     ensures view { IfOk result (λ buf. pass_view pass.new ≡ lent_view buffer block buf.bytes (calm_view (pass_view pass.old))) }
-    ensures gets { IfOk result (λ buf. (id : List ℕ) → Gets (record { id = id; sizes = (pass_view pass.old).opening.sizes }) (held_of (pass_view pass.old).lines) block buf) }
+    ensures gets { IfOk result (λ buf. (id : List ℕ) → Gets (record { id = id; sizes = (pass_view pass.old).opening.sizes })
+        (held_of (pass_view pass.old).lines) block buf) }
     ensures err { IfErr result (λ e. (e ≡ Fault) × (pass_view pass.new ≡ failed_view (calm_view (pass_view pass.old)))) }
 {
     if state.core.is_valid(buffer) {
@@ -156,7 +164,8 @@ pub fn get<R: Wait, D: Medium>(
     requires events { turn_events turn.now ≡ (pass_view pass.old).opening.buffers + 3 }
     ensures same { IsSamePass pass.old pass.new × IsOut pass.new }
     ensures view { IfOk result (λ buf. (k : ℕ) × (pass_view pass.new ≡ lent_view k block buf.bytes (calm_view (pass_view pass.old)))) }
-    ensures gets { IfOk result (λ buf. (id : List ℕ) → Gets (record { id = id; sizes = (pass_view pass.old).opening.sizes }) (held_of (pass_view pass.old).lines) block buf) }
+    ensures gets { IfOk result (λ buf. (id : List ℕ) → Gets (record { id = id; sizes = (pass_view pass.old).opening.sizes })
+        (held_of (pass_view pass.old).lines) block buf) }
     ensures err { IfErr result (λ e. (e ≡ Fault) × (pass_view pass.new ≡ failed_view (calm_view (pass_view pass.old)))) }
 {
     let mut state = turn.enter(rt, pass);

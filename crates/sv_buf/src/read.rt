@@ -31,7 +31,8 @@ fn wait_for_device<R: Wait, D: Medium>(
 ) -> State<D>
     requires own { IsPassOf turn.now pass.old }
     requires events { 1 < turn_events turn.now }
-    requires pending { IsPending (IsRunning (seen_by D.content D.reads D.writes D.faults)) pass.old state (moving_view buffer block None (pass_view pass.old)) }
+    requires pending { IsPending (IsRunning (seen_by D.content D.reads D.writes D.faults)) pass.old state
+        (moving_view buffer block None (pass_view pass.old)) }
     ensures same { IsSamePass pass.old pass.new }
     ensures view { pass_view pass.new ≡ moving_view buffer block None (pass_view pass.old) }
     ensures pending { IsPending (IsRunning (seen_by D.content D.reads D.writes D.faults)) pass.new result (pass_view pass.new) }
@@ -52,9 +53,11 @@ pub fn fetch_device<R: Wait, D: Medium>(
     requires events { 1 < turn_events turn.now }
     requires some { 0 < weight (pass_view pass.old) }
     requires home { (pass_view pass.old).device ≡ None }
-    requires pending { IsPending (IsRunning (seen_by D.content D.reads D.writes D.faults)) pass.old state (moving_view buffer block None (pass_view pass.old)) }
+    requires pending { IsPending (IsRunning (seen_by D.content D.reads D.writes D.faults)) pass.old state
+        (moving_view buffer block None (pass_view pass.old)) }
     ensures same { IsSamePass pass.old pass.new × IsOut pass.new }
-    ensures view { pass_view pass.new ≡ device_view (seen_by D.content D.reads D.writes D.faults result) (moving_view buffer block None (pass_view pass.old)) }
+    ensures view { pass_view pass.new ≡ device_view (seen_by D.content D.reads D.writes D.faults result)
+        (moving_view buffer block None (pass_view pass.old)) }
     ensures whole { length (D.content result) ≡ (pass_view pass.old).opening.sizes.blocks * (pass_view pass.old).opening.sizes.block_size }
 {
     for _ in rt.forever() {

@@ -1,5 +1,6 @@
 -- The buffer cache as it is drawn on paper (Bach, chapter 3.1): headers, and the free list.
-use Rattle.std.specs.Prelude.{◌≡◌, ◌<◌, ◌≤◌, ◌==◌, ℕ, Bool, false, List, Option, Some, None, length, nat_lt, position, slice_index_or, replicate}
+use Rattle.std.specs.Prelude.{◌≡◌, ◌<◌, ◌≤◌, ◌==◌, ℕ, Bool, false, List, Option, Some, None, length, nat_lt, position, slice_index_or}
+use Rattle.std.specs.Prelude.{replicate}
 use Rattle.std.specs.List.{range_with_len}
 use Rattle.sv_form.specs.declared.geometry.Geometry.{Geometry}
 use Rattle.sv_links.specs.Arrangement.{times}

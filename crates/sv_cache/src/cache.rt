@@ -1,5 +1,6 @@
 // The cache: all buffers, their hash queues and the free list.
-ghost use Rattle.std.specs.Prelude.{◌≡◌, ◌↔◌, ◌<◌, ◌*◌, ℕ, None, Some, IfOk, IfErr, IsTrue, IfSome, find, length, map, slice_set, replicate, vec_len, [], ◌∷◌};
+ghost use Rattle.std.specs.Prelude.{◌≡◌, ◌↔◌, ◌<◌, ◌*◌, ℕ, None, Some, IfOk, IfErr, IsTrue, IfSome, find, length, map, slice_set};
+ghost use Rattle.std.specs.Prelude.{replicate, vec_len, [], ◌∷◌};
 ghost use Rattle.std.specs.List.{range_with_len};
 ghost use Rattle.sv_form.specs.Geometry.{IsGeometry};
 ghost use Rattle.sv_links.specs.Arrangement.{list_at, without, IsArranged, IsOnNone};
@@ -265,7 +266,10 @@ impl<D> CacheCore<D> {
     fn rename(&mut self, buffer: u32, block: u32)
         requires in_range { buffer < length self.old.buffers }
         requires unnamed { IsUnnamed self.old block }
-        ensures after { self.new ≡ record self.old { buffers = slice_set self.old.buffers buffer (renamed (buffer_at self.old buffer) block) } }
+        ensures after { self.new ≡ record self.old {
+          buffers = slice_set self.old.buffers buffer
+              (renamed (buffer_at self.old buffer) block);
+        } }
         ensures lawful { IsLawful self.new }
     {
         leave(&mut self.queues, buffer);

@@ -1,5 +1,6 @@
 -- Conditions 10 and 11 of a sound image: the chain of free blocks (Bach, chapter 4.7), and that no data block is lost.
-use Rattle.std.specs.Prelude.{◌==◌, ◌&&◌, ◌+◌, ◌-◌, ◌*◌, ℕ, zero, suc, Bool, not, List, [], ◌∷◌, ◌++◌, map, take, drop, Option, Some, None, slice_index, nat_le, filter, find, flat_map, if◌then◌else◌}
+use Rattle.std.specs.Prelude.{◌==◌, ◌&&◌, ◌+◌, ◌-◌, ◌*◌, ℕ, zero, suc, Bool, not, List, [], ◌∷◌, ◌++◌, map, take, drop, Option, Some, None}
+use Rattle.std.specs.Prelude.{slice_index, nat_le, filter, find, flat_map, if◌then◌else◌}
 use Rattle.std.specs.List.{range_with_len, list_all}
 use Rattle.sv_form.specs.declared.geometry.Geometry.{Geometry}
 pub use Rattle.sv_form.specs.FreeChain.{list_in, numbers_at}
@@ -35,7 +36,8 @@ link_of numbers = filter (λ b. not (b == 0)) (take 1 numbers)
 unfoldable pub chain_from : Geometry → List ℕ → ℕ → List ℕ → List Chained
 chain_from g image zero numbers = []
 chain_from g image (suc n) numbers =
-    map number (link_of numbers ++ drop 1 numbers) ++ flat_map (λ b. list b ∷ chain_from g image n (list_in (block_of g image b))) (link_of numbers)
+    map number (link_of numbers ++ drop 1 numbers) ++ flat_map (λ b. list b ∷ chain_from g image n (list_in (block_of g image b)))
+    (link_of numbers)
 
 -- The chain of the image. It has fewer lists than the image has blocks, or meets one of them twice.
 unfoldable pub chain : Geometry → List ℕ → List Chained

@@ -22,5 +22,6 @@ with_each before numbers b = before b || is_among numbers b
 
 -- the chain went on over a part of it, or stopped there at this number, which is the first bad one
 abbrev pub Follows : Geometry → List ℕ → (ℕ → Bool) → List Chained → Bool → ℕ → (ℕ → Bool) → Type 0
-Follows g image before part true bad now = (rest : List Chained) → first_broken g image before (part ++ rest) ≡ first_broken g image now rest
+Follows g image before part true bad now = (rest : List Chained) → first_broken g image before (part ++ rest)
+    ≡ first_broken g image now rest
 Follows g image before part false bad now = (rest : List Chained) → first_broken g image before (part ++ rest) ≡ Some bad

@@ -1,5 +1,6 @@
 -- Conditions 13 to 15 of a sound image: the root, the entries of directories, and `.` and `..` (Bach, chapter 4.3).
-use Rattle.std.specs.Prelude.{◌==◌, ◌&&◌, ◌||◌, ◌+◌, ◌-◌, ◌/◌, ℕ, zero, suc, Bool, false, not, List, [], ◌∷◌, map, take, drop, length, replicate, Option, Some, None, is_some, option_map, unwrap_or, nat_le, filter, find, flat_map, if◌then◌else◌}
+use Rattle.std.specs.Prelude.{◌==◌, ◌&&◌, ◌||◌, ◌+◌, ◌-◌, ◌/◌, ℕ, zero, suc, Bool, false, not, List, [], ◌∷◌, map, take, drop, length}
+use Rattle.std.specs.Prelude.{replicate, Option, Some, None, is_some, option_map, unwrap_or, nat_le, filter, find, flat_map, if◌then◌else◌}
 use Rattle.std.specs.List.{range_with_len, list_any, list_all, enumerate_from}
 use Rattle.sv_form.specs.declared.geometry.Geometry.{Geometry}
 use Rattle.sv_form.specs.Geometry.{inode_count}
@@ -31,7 +32,8 @@ pages_within g size = range_with_len 0 ((size + (g.block_size - 1)) / g.block_si
 -- the bytes of an inode's file below its size; an absent page is zero bytes
 unfoldable pub contents : Geometry → List ℕ → List ℕ → List ℕ
 contents g image inode =
-    take (size_of inode) (flat_map (λ k. unwrap_or (page_in g image (reached g image inode) k) (replicate g.block_size 0)) (pages_within g (size_of inode)))
+    take (size_of inode) (flat_map (λ k. unwrap_or (page_in g image (reached g image inode) k) (replicate g.block_size 0))
+    (pages_within g (size_of inode)))
 
 -- each page below the size is present
 abbrev pub has_no_hole : Geometry → List ℕ → List ℕ → Bool
@@ -47,11 +49,13 @@ entries g image d = pieces (size_of (inode_of g image d) / 16) (contents g image
 abbrev pub reads_entry : List ℕ → Bool
 reads_entry entry =
     if named_by entry == 0 then all_zero entry
-    else (not (length (name_in entry) == 0) && list_all (λ b. not (b == 47)) (name_in entry) && all_zero (drop (2 + length (name_in entry)) entry))
+    else (not (length (name_in entry) == 0) && list_all (λ b. not (b == 47)) (name_in entry)
+    && all_zero (drop (2 + length (name_in entry)) entry))
 
 -- an entry is empty, or names an inode that is in the list and used
 abbrev pub leads_somewhere : Geometry → List ℕ → List ℕ → Bool
-leads_somewhere g image entry = (named_by entry == 0) || (nat_le (named_by entry) (inode_count g) && not (is_free (inode_of g image (named_by entry))))
+leads_somewhere g image entry = (named_by entry == 0) || (nat_le (named_by entry) (inode_count g)
+    && not (is_free (inode_of g image (named_by entry))))
 
 -- the names in these entries; an empty entry has none
 abbrev pub names_in : List (List ℕ) → List (List ℕ)
@@ -68,7 +72,8 @@ are_entries g image es = list_all (λ e. reads_entry e && leads_somewhere g imag
 
 -- condition 14, Entry: where it fails, and None where it holds
 unfoldable pub entry_flaw : Geometry → List ℕ → Option ℕ
-entry_flaw g image = find (λ d. not (has_no_hole g image (inode_of g image d) && are_entries g image (entries g image d))) (directories g image)
+entry_flaw g image = find (λ d. not (has_no_hole g image (inode_of g image d) && are_entries g image (entries g image d)))
+    (directories g image)
 
 -- ---- `.` and `..`
 
@@ -124,7 +129,8 @@ rises_to_root up (suc n) d = (d == 2) || some_and (up d) (rises_to_root up n)
 
 -- the dots of directory d, whose entries these are, are in order; a way to the root has fewer steps than there are inodes
 abbrev pub are_dots : Geometry → List ℕ → List Naming → ℕ → List (List ℕ) → Bool
-are_dots g image all d es = has_dot es d && some_and (above es) (is_placed all d) && has_dots_once es && rises_to_root (above_in g image) (inode_count g) d
+are_dots g image all d es = has_dot es d && some_and (above es) (is_placed all d) && has_dots_once es
+    && rises_to_root (above_in g image) (inode_count g) d
 
 -- condition 15, Dots: where it fails, and None where it holds
 unfoldable pub dots_flaw : Geometry → List ℕ → Option ℕ

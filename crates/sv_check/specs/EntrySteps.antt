@@ -1,5 +1,6 @@
 -- How far the entries of a directory were gone through.
-use Rattle.std.specs.Prelude.{◌≡◌, ◌==◌, ◌&&◌, ◌++◌, ℕ, Bool, true, false, List, [], ◌∷◌, Option, MatchOption, IfSome, is_some, unwrap_or, if◌then◌else◌}
+use Rattle.std.specs.Prelude.{◌≡◌, ◌==◌, ◌&&◌, ◌++◌, ℕ, Bool, true, false, List, [], ◌∷◌, Option, MatchOption, IfSome, is_some, unwrap_or}
+use Rattle.std.specs.Prelude.{if◌then◌else◌}
 use Rattle.std.specs.List.{list_any}
 use Rattle.sv_form.specs.declared.geometry.Geometry.{Geometry}
 use Rattle.sv_form.specs.declared.entry.Entry.{Entry}
@@ -36,10 +37,12 @@ seen_after seen (e ∷ es) = seen_after (with_entry seen e) es
 unfoldable pub are_good_after : Geometry → List ℕ → List (List ℕ) → List (List ℕ) → Bool
 are_good_after g image seen [] = true
 are_good_after g image seen (e ∷ es) =
-    if is_good g image e then (if named_by e == 0 then are_good_after g image seen es else (if is_taken seen (name_in e) then false else are_good_after g image (e ∷ seen) es))
+    if is_good g image e then (if named_by e == 0 then are_good_after g image seen es else
+    (if is_taken seen (name_in e) then false else are_good_after g image (e ∷ seen) es))
     else false
 
 -- these entries were gone through and are in order so far, or one was not, and then the directory's are not
 abbrev pub Takes : Geometry → List ℕ → List (List ℕ) → List (List ℕ) → Bool → Type 0
-Takes g image seen es true = (rest : List (List ℕ)) → are_good_after g image seen (es ++ rest) ≡ are_good_after g image (seen_after seen es) rest
+Takes g image seen es true = (rest : List (List ℕ)) → are_good_after g image seen (es ++ rest)
+    ≡ are_good_after g image (seen_after seen es) rest
 Takes g image seen es false = (rest : List (List ℕ)) → are_good_after g image seen (es ++ rest) ≡ false

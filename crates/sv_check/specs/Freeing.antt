@@ -29,7 +29,8 @@ all_freed blocks inodes = freed_down blocks (blocks - (first_data_for inodes + 1
 -- the lists of a made image are those that freeing gives
 pub record IsFreedDown (blocks inodes : ℕ) : Type 0 where
   pub cache : free_cache (made_geometry blocks inodes) ≡ (all_freed blocks inodes).list
-  pub links : (b : ℕ) → first_data_for inodes < b → b < blocks → (blocks - b) % 50 ≡ 0 → list_in blocks b ≡ (all_freed blocks inodes).linked b
+  pub links : (b : ℕ) → first_data_for inodes < b → b < blocks → (blocks - b) % 50 ≡ 0
+      → list_in blocks b ≡ (all_freed blocks inodes).linked b
 
 abbrev pub MadeByFreeing : Type 0
 MadeByFreeing = (blocks inodes : ℕ) → CanBeMade blocks inodes → IsFreedDown blocks inodes

@@ -20,7 +20,8 @@ is_cacheable g image before n = nat_le 2 n && nat_le n (inode_count g) && is_fre
 -- the first number that may not stand there, where these were met before the list begins
 unfoldable pub first_uncacheable : Geometry → List ℕ → (ℕ → Bool) → List ℕ → Option ℕ
 first_uncacheable g image before [] = None
-first_uncacheable g image before (n ∷ rest) = if is_cacheable g image before n then first_uncacheable g image (with_met before n) rest else Some n
+first_uncacheable g image before (n ∷ rest) = if is_cacheable g image before n then first_uncacheable g image (with_met before n) rest else
+    Some n
 
 -- condition 12, CachedInode: where it fails, which is a number of the cache, and None where it holds
 unfoldable pub cache_flaw : Geometry → List ℕ → Option ℕ

@@ -60,7 +60,8 @@ kind_flaw g image = find (λ n. is_misread n (inode_of g image n)) (inode_number
 
 -- a size over the greatest one, or that of a directory which has no place for `.` and `..` or a part of an entry
 abbrev pub is_missized : Geometry → List ℕ → Bool
-is_missized g inode = nat_lt (greatest_size g) (size_of inode) || (is_directory inode && (nat_lt (size_of inode) 32 || not (size_of inode % 16 == 0)))
+is_missized g inode = nat_lt (greatest_size g) (size_of inode) || (is_directory inode
+    && (nat_lt (size_of inode) 32 || not (size_of inode % 16 == 0)))
 
 -- condition 5, Size: where it fails, and None where it holds
 unfoldable pub size_flaw : Geometry → List ℕ → Option ℕ

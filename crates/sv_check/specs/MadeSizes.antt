@@ -9,11 +9,13 @@ use Rattle.sv_check.specs.Sound.{IsSound}
 
 -- its magic number, block type and sizes are those of a sound image, and the sizes are the ones that it was made with
 abbrev pub HaveTheirSizes : Type 0
-HaveTheirSizes = (blocks inodes : ℕ) → CanBeMade blocks inodes → IsSized (made_image blocks inodes) × (geometry_of (made_image blocks inodes) ≡ made_geometry blocks inodes)
+HaveTheirSizes = (blocks inodes : ℕ) → CanBeMade blocks inodes → IsSized (made_image blocks inodes)
+    × (geometry_of (made_image blocks inodes) ≡ made_geometry blocks inodes)
 
 -- what stands in each of its blocks is what is made for that block
 abbrev pub HaveTheirBlocks : Type 0
-HaveTheirBlocks = (blocks inodes b : ℕ) → b < blocks → block_of (made_geometry blocks inodes) (made_image blocks inodes) b ≡ made_block (made_geometry blocks inodes) b
+HaveTheirBlocks = (blocks inodes b : ℕ) → b < blocks → block_of (made_geometry blocks inodes) (made_image blocks inodes) b
+    ≡ made_block (made_geometry blocks inodes) b
 
 -- its inode list has a root with one page, and nothing else
 abbrev pub HaveTheirRoot : Type 0

@@ -43,7 +43,12 @@ kept_of d = record { inode = d.inode; size = d.size; pages = d.pages.items }
 
 -- and of directory n of an image
 abbrev pub directory_in : Geometry → List ℕ → ℕ → DirectoryPages
-directory_in g image n = record { inode = n; size = size_of (inode_of g image n); pages = pages_among (reached g image (inode_of g image n)) }
+directory_in g image n = record {
+  inode = n;
+  size = size_of (inode_of g image n);
+  pages = pages_among
+      (reached g image (inode_of g image n));
+}
 
 -- what is kept of a directory is that of the image, its entries are whole, and its blocks stand in the image
 pub record IsReady (g : Geometry) (image : List ℕ) (d : Directory) : Type 0 where

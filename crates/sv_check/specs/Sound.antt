@@ -1,5 +1,6 @@
 -- Sound images: the sixteen conditions in order, the first that fails, and what an image stands for.
-use Rattle.std.specs.Prelude.{◌≡◌, ◌⊎◌, ◌==◌, ◌||◌, ◌&&◌, ◌+◌, ◌%◌, ℕ, Bool, List, [], ◌∷◌, map, Option, Some, None, unwrap_or, filter, find, if◌then◌else◌}
+use Rattle.std.specs.Prelude.{◌≡◌, ◌⊎◌, ◌==◌, ◌||◌, ◌&&◌, ◌+◌, ◌%◌, ℕ, Bool, List, [], ◌∷◌, map, Option, Some, None, unwrap_or, filter}
+use Rattle.std.specs.Prelude.{find, if◌then◌else◌}
 use Rattle.std.specs.List.{list_any}
 use Rattle.std.specs.Ordering.{nat_cmp}
 use Rattle.std.specs.FinMap as fmap
@@ -29,7 +30,8 @@ use Rattle.sv_check.specs.Links.{links_flaw}
 abbrev pub flaws_from_4 : Geometry → List ℕ → List (Option ℕ)
 flaws_from_4 g image =
     kind_flaw g image ∷ size_flaw g image ∷ range_flaw g image ∷ twice_flaw g image ∷ past_size_flaw g image ∷ tail_flaw g image
-    ∷ chain_flaw g image ∷ lost_flaw g image ∷ cache_flaw g image ∷ root_flaw g image ∷ entry_flaw g image ∷ dots_flaw g image ∷ links_flaw g image ∷ []
+    ∷ chain_flaw g image ∷ lost_flaw g image ∷ cache_flaw g image ∷ root_flaw g image ∷ entry_flaw g image ∷ dots_flaw g image ∷ links_flaw
+    g image ∷ []
 
 -- the first that fails, by its number and its place, where the first of the list has this number
 abbrev pub first_failing : ℕ → List (Option ℕ) → Option (ℕ × ℕ)
@@ -105,7 +107,8 @@ tree image = let g = geometry_of image in fmap.from_entries (map (λ n. (n, node
 
 -- the line of an inode, and all lines of the blocks that it reaches, are its own
 abbrev pub owns : Geometry → List ℕ → Place → ℕ → Bool
-owns g image p n = ((inode_place g n).block == p.block && (inode_place g n).line == p.line) || list_any (λ r. r.block == p.block) (reached g image (inode_of g image n))
+owns g image p n = ((inode_place g n).block == p.block && (inode_place g n).line == p.line)
+    || list_any (λ r. r.block == p.block) (reached g image (inode_of g image n))
 
 -- the used inode whose the line is, 0 for none
 unfoldable pub line_owner : Geometry → List ℕ → Place → ℕ

@@ -1,5 +1,6 @@
 -- What the entries of directories say of each inode, entry by entry.
-use Rattle.std.specs.Prelude.{◌≡◌, ◌==◌, ◌&&◌, ◌||◌, ◌+◌, ◌-◌, ◌^◌, ℕ, false, List, [], ◌∷◌, map, flat_map, get_or, min, nat_le, if◌then◌else◌}
+use Rattle.std.specs.Prelude.{◌≡◌, ◌==◌, ◌&&◌, ◌||◌, ◌+◌, ◌-◌, ◌^◌, ℕ, false, List, [], ◌∷◌, map, flat_map, get_or, min, nat_le}
+use Rattle.std.specs.Prelude.{if◌then◌else◌}
 use Rattle.std.specs.List.{enumerate_from}
 use Rattle.sv_form.specs.declared.geometry.Geometry.{Geometry}
 use Rattle.sv_plain.specs.Names.{same_bytes}
@@ -48,7 +49,8 @@ put n s all x = if n == x then s else all x
 -- all standings after one more entry
 unfoldable pub step : (ℕ → Standing) → Told → ℕ → Standing
 step all t =
-    put t.directory (with_dots t (put (named_by t.entry) (named t (all (named_by t.entry))) all t.directory)) (put (named_by t.entry) (named t (all (named_by t.entry))) all)
+    put t.directory (with_dots t (put (named_by t.entry) (named t (all (named_by t.entry))) all t.directory))
+    (put (named_by t.entry) (named t (all (named_by t.entry))) all)
 
 -- and after these
 abbrev pub after : (ℕ → Standing) → List Told → ℕ → Standing

@@ -1,6 +1,7 @@
 -- Conditions 6 and 7 of a sound image: the walk over the blocks of all inodes meets data blocks alone, and each once.
 -- The order of the walk is a list, which goes on past a bad number; only what stands before the first bad one counts.
-use Rattle.std.specs.Prelude.{◌≡◌, ◌==◌, ◌&&◌, ◌||◌, ◌+◌, ◌-◌, ◌*◌, ◌^◌, ℕ, zero, suc, Bool, true, false, not, List, [], ◌∷◌, map, Option, Some, None, nat_le, nat_lt, filter, flat_map, option_and_then, if◌then◌else◌}
+use Rattle.std.specs.Prelude.{◌≡◌, ◌==◌, ◌&&◌, ◌||◌, ◌+◌, ◌-◌, ◌*◌, ◌^◌, ℕ, zero, suc, Bool, true, false, not, List, [], ◌∷◌, map, Option}
+use Rattle.std.specs.Prelude.{Some, None, nat_le, nat_lt, filter, flat_map, option_and_then, if◌then◌else◌}
 use Rattle.std.specs.List.{range_with_len, list_any}
 use Rattle.sv_form.specs.declared.geometry.Geometry.{Geometry}
 use Rattle.sv_form.specs.Image.{block_of, inode_of}

@@ -1,5 +1,6 @@
 // The chain of free blocks (Bach, chapter 4.7): conditions 10 and 11 of a sound image.
-ghost use Rattle.std.specs.Prelude.{◌≡◌, ◌≤◌, ◌<◌, ◌*◌, ⊤, ℕ, List, None, not, map, drop, find, length, true, false, slice_set, slice_index, ◌-◌, ◌≢◌, IfOk, IfErr};
+ghost use Rattle.std.specs.Prelude.{◌≡◌, ◌≤◌, ◌<◌, ◌*◌, ⊤, ℕ, List, None, not, map, drop, find, length, true, false, slice_set};
+ghost use Rattle.std.specs.Prelude.{slice_index, ◌-◌, ◌≢◌, IfOk, IfErr};
 ghost use Rattle.std.specs.List.{range_with_len};
 ghost use Rattle.std.specs.Bool.{OnTrue, OnFalse};
 ghost use Rattle.sv_dev.specs.Causes.{Rose};
@@ -76,7 +77,8 @@ impl MetBlocks {
     // Meets numbers in order; false where one is bad.
     fn take_each(&mut self, sizes: &Geometry, numbers: &[u32]) -> bool
         requires blocks { length self.old.met.items ≡ sizes.now.blocks }
-        ensures follows { (image : List ℕ) → Follows sizes.now image (met_in self.old.met.items) (map number numbers.now) result self.new.bad (met_in self.new.met.items) }
+        ensures follows { (image : List ℕ) → Follows sizes.now image (met_in self.old.met.items) (map number numbers.now) result
+            self.new.bad (met_in self.new.met.items) }
         ensures met { OnTrue result ((b : ℕ) → met_in self.new.met.items b ≡ with_each (met_in self.old.met.items) numbers.now b) }
         ensures inside { OnTrue result ((k : ℕ) → k < length numbers.now → slice_index numbers.now k < sizes.now.blocks) }
         ensures blocks { length self.new.met.items ≡ sizes.now.blocks }
@@ -92,8 +94,10 @@ impl MetBlocks {
     // Meets the numbers of a list in order, a link of 0 passed over; false where one is bad.
     fn take_list(&mut self, sizes: &Geometry, numbers: &[u32]) -> bool
         requires blocks { length self.old.met.items ≡ sizes.now.blocks }
-        ensures follows { (image : List ℕ) → Follows sizes.now image (met_in self.old.met.items) (met_of_list numbers.now) result self.new.bad (met_in self.new.met.items) }
-        ensures met { OnTrue result ((b : ℕ) → met_in self.new.met.items b ≡ with_each (met_in self.old.met.items) (numbers_of (met_of_list numbers.now)) b) }
+        ensures follows { (image : List ℕ) → Follows sizes.now image (met_in self.old.met.items) (met_of_list numbers.now) result
+            self.new.bad (met_in self.new.met.items) }
+        ensures met { OnTrue result ((b : ℕ) → met_in self.new.met.items b
+            ≡ with_each (met_in self.old.met.items) (numbers_of (met_of_list numbers.now)) b) }
         ensures inside { OnTrue result (slice_index numbers.now 0 ≢ 0 → slice_index numbers.now 0 < sizes.now.blocks) }
         ensures blocks { length self.new.met.items ≡ sizes.now.blocks }
     {
@@ -106,7 +110,8 @@ impl MetBlocks {
     /// The first data block that was not met.
     pub(crate) fn first_lost(&self, sizes: &Geometry) -> Option<u32>
         requires blocks { length self.now.met.items ≡ sizes.now.blocks }
-        ensures lost { result ≡ find (λ b. not (met_in self.now.met.items b)) (range_with_len sizes.now.first_data (sizes.now.blocks - sizes.now.first_data)) }
+        ensures lost { result ≡ find (λ b. not (met_in self.now.met.items b))
+            (range_with_len sizes.now.first_data (sizes.now.blocks - sizes.now.first_data)) }
     {
         for b in sizes.first_data..sizes.blocks {
             if !self.met[b as usize] {

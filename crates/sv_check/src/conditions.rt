@@ -179,7 +179,8 @@ fn check_blocks<D: Disk>(
     ensures kept { IfOk result (λ w. map kept_of w.directories.items
         ≡ map (directory_in sizes.now (D.content disk.old)) (directories sizes.now (D.content disk.old))) }
     ensures owners { IfOk result (λ w. length w.walk.owner.items ≡ sizes.now.blocks) }
-    ensures met { IfOk result (λ w. (b : ℕ) → met_by (slice_index w.walk.owner.items) b ≡ is_among (walked sizes.now (D.content disk.old)) b) }
+    ensures met { IfOk result (λ w. (b : ℕ) → met_by (slice_index w.walk.owner.items) b
+        ≡ is_among (walked sizes.now (D.content disk.old)) b) }
     ensures owner { IfOk result (λ w. (b : ℕ) → slice_index w.walk.owner.items b ≡ block_owner sizes.now (D.content disk.old) b) }
     ensures first { IfOk result (λ w. first_bad sizes.now nothing_met (walk sizes.now (D.content disk.old)) ≡ None) }
     ensures err { IfErr result (Says (Flaw (D.content disk.old)) (Rose (D.faults disk.old) (D.faults disk.new)) ⊤) }

@@ -38,7 +38,8 @@ pub(crate) fn first_disordered<D: Disk>(
     requires standings { length standings.old.of.items ≡ inode_count sizes.now + 1 }
     requires block { length block.old ≡ sizes.now.block_size }
     ensures first { IfOk result (λ r. r ≡ entry_flaw sizes.now (D.content disk.old)) }
-    ensures told { IfOk result (λ r. r ≡ None → standing_of standings.new ≡ after (standing_of standings.old) (told sizes.now (D.content disk.old))) }
+    ensures told { IfOk result (λ r. r ≡ None → standing_of standings.new
+        ≡ after (standing_of standings.old) (told sizes.now (D.content disk.old))) }
     ensures len { IfOk result (λ r. length standings.new.of.items ≡ length standings.old.of.items) }
     ensures err { IfErr result (Says (λ _ _. ⊥) (Rose (D.faults disk.old) (D.faults disk.new)) ⊤) }
     ensures content { D.content disk.new ≡ D.content disk.old }

@@ -22,7 +22,8 @@ pub(crate) fn first_misplaced(
     requires sizes { IsGeometry sizes.now }
     requires standings { length standings.now.of.items ≡ inode_count sizes.now + 1 }
     requires nowhere { (standing_of standings.now 0).above ≡ 0 }
-    ensures { IfOk result (λ r. (image : List ℕ) → map (λ d. d.inode) kept.now ≡ directories sizes.now image → HaveTold sizes.now image standings.now
+    ensures { IfOk result (λ r. (image : List ℕ) → map (λ d. d.inode) kept.now ≡ directories sizes.now image
+        → HaveTold sizes.now image standings.now
         → entry_flaw sizes.now image ≡ None → r ≡ dots_flaw sizes.now image) }
 {
     let up = steps_up(alloc, standings)?;
@@ -32,7 +33,8 @@ pub(crate) fn first_misplaced(
 
 // The first directory that is not well placed, or from which the way does not end at the root.
 fn first_astray(kept: &[Directory], standings: &Standings, ends: &[u16]) -> Option<u16>
-    ensures { result ≡ find (λ n. not (is_well_placed n (standing_of standings.now n) && (slice_index ends.now n == 2))) (map (λ d. d.inode) kept.now) }
+    ensures { result ≡ find (λ n. not (is_well_placed n (standing_of standings.now n) && (slice_index ends.now n == 2)))
+        (map (λ d. d.inode) kept.now) }
 {
     for directory in kept {
         let n = directory.inode;

@@ -53,8 +53,10 @@ impl SeenNames {
     // Takes the name of an entry; false if it was seen before.
     fn take_name(&mut self, entry: &[u8]) -> Result<bool, NoMemory>
         requires { length entry.now ≡ 16 }
-        ensures new { IfOk result (λ new. (seen : List (List ℕ)) → HasSeen self.old seen → IsNamed entry.now → new ≡ not (is_taken seen (name_in entry.now))) }
-        ensures seen { IfOk result (λ new. (seen : List (List ℕ)) → HasSeen self.old seen → IsNamed entry.now → HasSeen self.new (entry.now ∷ seen)) }
+        ensures new { IfOk result (λ new. (seen : List (List ℕ)) → HasSeen self.old seen → IsNamed entry.now
+            → new ≡ not (is_taken seen (name_in entry.now))) }
+        ensures seen { IfOk result (λ new. (seen : List (List ℕ)) → HasSeen self.old seen → IsNamed entry.now
+            → HasSeen self.new (entry.now ∷ seen)) }
     {
         let mut field = [0; 14];
         field.copy_from_slice(&entry[2..]);
@@ -67,7 +69,8 @@ impl SeenNames {
         requires { length bytes.now ≡ 16 }
         ensures takes { IfOk result (λ ok. (g : Geometry) (image : List ℕ) (seen : List (List ℕ)) → used.now ≡ used_flags g image
             → HasSeen self.old seen → Takes g image seen (bytes.now ∷ []) ok) }
-        ensures seen { IfOk result (λ ok. OnTrue ok ((seen : List (List ℕ)) → HasSeen self.old seen → HasSeen self.new (with_entry seen bytes.now))) }
+        ensures seen { IfOk result (λ ok. OnTrue ok ((seen : List (List ℕ)) → HasSeen self.old seen
+            → HasSeen self.new (with_entry seen bytes.now))) }
     {
         let Some(entry) = read_entry(bytes) else {
             return Ok(false);

@@ -20,7 +20,8 @@ pub(crate) fn first_uncacheable(
 ) -> Result<Option<u16>, NoMemory>
     requires sizes { IsGeometry sizes.now }
     requires flags { length used.now ≡ inode_count sizes.now }
-    ensures first { IfOk result (λ r. (image : List ℕ) → used.now ≡ used_flags sizes.now image → r ≡ first_uncacheable sizes.now image nothing_met cache.now) }
+    ensures first { IfOk result (λ r. (image : List ℕ) → used.now ≡ used_flags sizes.now image
+        → r ≡ first_uncacheable sizes.now image nothing_met cache.now) }
 {
     let mut met = no_inodes(alloc, sizes)?;
     for n in cache {

@@ -1,5 +1,6 @@
 // Conditions 4 and 5 of a sound image: one pass over the inode list.
-ghost use Rattle.std.specs.Prelude.{◌≡◌, ◌≢◌, ◌≤◌, ◌*◌, ◌-◌, ◌++◌, ◌∷◌, ◌==◌, ◌%◌, ◌&&◌, ◌||◌, [], ⊤, ℕ, List, None, true, not, nat_lt, length, if◌then◌else◌, IfOk, IfErr, OnOk};
+ghost use Rattle.std.specs.Prelude.{◌≡◌, ◌≢◌, ◌≤◌, ◌*◌, ◌-◌, ◌++◌, ◌∷◌, ◌==◌, ◌%◌, ◌&&◌, ◌||◌, [], ⊤, ℕ, List, None, true, not, nat_lt};
+ghost use Rattle.std.specs.Prelude.{length, if◌then◌else◌, IfOk, IfErr, OnOk};
 ghost use Rattle.std.specs.Option.{option_or};
 ghost use Rattle.sv_dev.specs.Causes.{HasCause, Rose};
 ghost use Rattle.sv_form.specs.Geometry.{IsGeometry, IsNumber, inode_place};
@@ -9,7 +10,8 @@ ghost use Rattle.sv_form.specs.PagePath.{greatest_size};
 ghost use Rattle.sv_plain.specs.Front.{size_of};
 ghost use Rattle.sv_check.specs.Blocks.{IsInodeRead};
 ghost use Rattle.sv_check.specs.Fault.{Says};
-ghost use Rattle.sv_check.specs.InodeList.{is_directory, is_free, is_misread, is_missized, kind_flaw, link_counts, links_of, reads_inode, size_flaw, used_flags};
+ghost use Rattle.sv_check.specs.InodeList.{is_directory, is_free, is_misread, is_missized, kind_flaw, link_counts, links_of, reads_inode};
+ghost use Rattle.sv_check.specs.InodeList.{size_flaw, used_flags};
 
 use crate::{CheckFault, read_block};
 use std::alloc::Global;

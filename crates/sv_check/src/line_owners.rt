@@ -38,7 +38,8 @@ fn line_owner(sizes: &Geometry, used: &[bool], owners: &[u16], line: u32) -> u16
     requires used { length used.now ≡ inode_count sizes.now }
     requires owners { length owners.now ≡ sizes.now.blocks }
     requires line { line < line_count sizes.now }
-    ensures { (image : List ℕ) → used.now ≡ used_flags sizes.now image → ((b : ℕ) → slice_index owners.now b ≡ block_owner sizes.now image b)
+    ensures { (image : List ℕ) → used.now ≡ used_flags sizes.now image → ((b : ℕ)
+        → slice_index owners.now b ≡ block_owner sizes.now image b)
         → first_bad sizes.now nothing_met (walk sizes.now image) ≡ None → result ≡ line_owner sizes.now image (place_of sizes.now line) }
 {
     let lines = sizes.block_lines();

@@ -44,7 +44,8 @@ fn is_mislinked(sizes: &Geometry, list: &InodeList, standings: &Standings, n: u3
     requires least { 1 ≤ n }
     requires most { n ≤ inode_count sizes.now }
     ensures { (image : List ℕ) → list.now.used.items ≡ used_flags sizes.now image → list.now.links.items ≡ link_counts sizes.now image
-        → HaveTold sizes.now image standings.now → result ≡ (not (is_free (inode_of sizes.now image n)) && has_wrong_links (namings sizes.now image) n (inode_of sizes.now image n)) }
+        → HaveTold sizes.now image standings.now → result ≡ (not (is_free (inode_of sizes.now image n))
+        && has_wrong_links (namings sizes.now image) n (inode_of sizes.now image n)) }
 {
     let place = n as usize;
     if !list.used[place - 1] {

@@ -1,5 +1,6 @@
 // The tree of a sound image, read from a disk.
-ghost use Rattle.std.specs.Prelude.{◌≡◌, ◌≢◌, ◌≤◌, ◌<◌, ◌+◌, ◌*◌, ◌^◌, ⊤, ℕ, None, false, true, length, IfOk, IfErr, OnOk, IfSome, IfNone, IsSome};
+ghost use Rattle.std.specs.Prelude.{◌≡◌, ◌≢◌, ◌≤◌, ◌<◌, ◌+◌, ◌*◌, ◌^◌, ⊤, ℕ, None, false, true, length, IfOk, IfErr, OnOk, IfSome, IfNone};
+ghost use Rattle.std.specs.Prelude.{IsSome};
 ghost use Rattle.std.specs.FinMap as map;
 ghost use Rattle.std.specs.List.{list_all};
 ghost use Rattle.sv_dev.specs.Causes.{Rose};
@@ -155,7 +156,8 @@ fn load_pages<D: Disk>(
     requires there { IsSome (map.get fs.old.nodes n) }
     requires absent { (page : ℕ) → page_of fs.old n page ≡ None }
     requires block { fs.old.block ≡ sizes.now.block_size }
-    ensures pages { OnOk result (fs.new ≡ with_all_reached sizes.now (D.content disk.old) n fs.old (reached sizes.now (D.content disk.old) inode.now)) }
+    ensures pages { OnOk result (fs.new ≡ with_all_reached sizes.now (D.content disk.old) n fs.old
+        (reached sizes.now (D.content disk.old) inode.now)) }
     ensures err { IfErr result (Tells (Rose (D.faults disk.old) (D.faults disk.new)) ⊤) }
     ensures content { D.content disk.new ≡ D.content disk.old }
     ensures faults { D.faults disk.old ≤ D.faults disk.new }
@@ -191,7 +193,8 @@ fn load_under<D: Disk>(
     requires there { IsSome (map.get fs.old.nodes n) }
     requires absent { (k : ℕ) → page ≤ k → page_of fs.old n k ≡ None }
     requires block { fs.old.block ≡ sizes.now.block_size }
-    ensures pages { OnOk result (fs.new ≡ with_all_reached sizes.now (D.content disk.old) n fs.old (reached_under sizes.now (D.content disk.old) height page b)) }
+    ensures pages { OnOk result (fs.new ≡ with_all_reached sizes.now (D.content disk.old) n fs.old
+        (reached_under sizes.now (D.content disk.old) height page b)) }
     ensures err { IfErr result (Tells (Rose (D.faults disk.old) (D.faults disk.new)) ⊤) }
     ensures content { D.content disk.new ≡ D.content disk.old }
     ensures faults { D.faults disk.old ≤ D.faults disk.new }

@@ -2,7 +2,8 @@
 ghost use Rattle.std.specs.Prelude.{◌≡◌, ◌≤◌, ◌<◌, ◌+◌, ◌*◌, ◌++◌, ◌^◌, length, flat_map};
 ghost use Rattle.sv_form.specs.Geometry.{IsGeometry};
 ghost use Rattle.sv_check.specs.Mkfs.{list_in};
-ghost use Rattle.sv_check.specs.MadeBlocks.{block_content, filled_to, head_bytes, link_block_bytes, little16, little24, little32, made_block, root_inode_bytes, root_page_bytes, superblock_bytes};
+ghost use Rattle.sv_check.specs.MadeBlocks.{block_content, filled_to, head_bytes, link_block_bytes, little16, little24, little32};
+ghost use Rattle.sv_check.specs.MadeBlocks.{made_block, root_inode_bytes, root_page_bytes, superblock_bytes};
 
 use crate::made_lists::{free_cache, free_list, inode_cache};
 use arrayvec::ArrayVec;

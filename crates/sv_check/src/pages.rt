@@ -20,7 +20,8 @@ pub(crate) struct Directory {
 
 /// The block of page k, which is the k-th of the pages unless a page before it is absent.
 pub(crate) fn block_of_page(pages: &[PageBlock], k: u32) -> Option<u32>
-    ensures found { IfSome result (λ b. (high : ℕ) → IsAtPage pages.now k high → find (has_number k) pages.now ≡ Some (record { page = k; block = b })) }
+    ensures found { IfSome result (λ b. (high : ℕ) → IsAtPage pages.now k high
+        → find (has_number k) pages.now ≡ Some (record { page = k; block = b })) }
     ensures next { OnSome result ((high : ℕ) → IsAtPage pages.now k high → IsAtPage pages.now (k + 1) high) }
     ensures inside { IfSome result (λ b. (blocks : ℕ) → All (λ p. p.block < blocks) pages.now → b < blocks) }
     ensures absent { IfNone result ((high : ℕ) → IsAtPage pages.now k high → find (has_number k) pages.now ≡ None) }

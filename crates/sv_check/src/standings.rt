@@ -128,7 +128,8 @@ impl Standings {
         requires entry { length entry.now ≡ 16 }
         requires inode { named_by entry.now < length self.old.of.items }
         requires directory { directory < length self.old.of.items }
-        ensures told { standing_of self.new ≡ step (standing_of self.old) (record { directory = directory; place = place; entry = entry.now }) }
+        ensures told { standing_of self.new ≡ step (standing_of self.old)
+            (record { directory = directory; place = place; entry = entry.now }) }
         ensures len { length self.new.of.items ≡ length self.old.of.items }
     {
         let inode = usize::from(number16(entry, 0));
@@ -143,7 +144,8 @@ impl Standings {
         requires places { first + length bytes.now < 2 ^ 64 }
         requires inodes { All (λ e. named_by e < length self.old.of.items) (pieces (length bytes.now / 16) bytes.now) }
         requires directory { directory < length self.old.of.items }
-        ensures told { standing_of self.new ≡ after (standing_of self.old) (told_from directory first (pieces (length bytes.now / 16) bytes.now)) }
+        ensures told { standing_of self.new ≡ after (standing_of self.old)
+            (told_from directory first (pieces (length bytes.now / 16) bytes.now)) }
         ensures len { length self.new.of.items ≡ length self.old.of.items }
     {
         for k in 0..bytes.len() / ENTRY_SIZE {

@@ -1,5 +1,6 @@
 // The walk over the blocks that an inode reaches (Bach, chapter 4.2): conditions 6 to 9 of a sound image.
-ghost use Rattle.std.specs.Prelude.{◌≡◌, ◌≢◌, ◌≤◌, ◌<◌, ◌+◌, ◌*◌, ◌^◌, ◌&&◌, ◌==◌, ◌||◌, ⊤, false, ◌∷◌, ◌++◌, [], ℕ, length, slice_set, slice_index, nat_lt, nat_le, drop, IfOk, IfErr, OnOk};
+ghost use Rattle.std.specs.Prelude.{◌≡◌, ◌≢◌, ◌≤◌, ◌<◌, ◌+◌, ◌*◌, ◌^◌, ◌&&◌, ◌==◌, ◌||◌, ⊤, false, ◌∷◌, ◌++◌, [], ℕ, length, slice_set};
+ghost use Rattle.std.specs.Prelude.{slice_index, nat_lt, nat_le, drop, IfOk, IfErr, OnOk};
 ghost use Rattle.std.specs.Bool.{OnTrue, OnFalse};
 ghost use Rattle.sv_dev.specs.Causes.{Rose};
 ghost use Rattle.sv_form.specs.Geometry.{IsGeometry};

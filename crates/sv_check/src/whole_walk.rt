@@ -1,5 +1,6 @@
 // The walk over the blocks of all inodes: conditions 6 to 9 of a sound image.
-ghost use Rattle.std.specs.Prelude.{◌≡◌, ◌≤◌, ◌*◌, ◌++◌, ◌∷◌, [], ⊤, ℕ, None, true, map, length, replicate, slice_index, if◌then◌else◌, IfOk, IfErr, OnOk};
+ghost use Rattle.std.specs.Prelude.{◌≡◌, ◌≤◌, ◌*◌, ◌++◌, ◌∷◌, [], ⊤, ℕ, None, true, map, length, replicate, slice_index, if◌then◌else◌};
+ghost use Rattle.std.specs.Prelude.{IfOk, IfErr, OnOk};
 ghost use Rattle.sv_dev.specs.Causes.{Rose};
 ghost use Rattle.sv_form.specs.Geometry.{IsGeometry};
 ghost use Rattle.sv_plain.specs.Front.{size_of};
@@ -52,10 +53,13 @@ pub(crate) fn walk_blocks<D: Disk>(
     ensures past { IfOk result (λ w. w.bad ≡ None → w.past ≡ past_size_flaw sizes.now (D.content disk.old)) }
     ensures tail { IfOk result (λ w. w.bad ≡ None → w.tail ≡ tail_flaw sizes.now (D.content disk.old)) }
     ensures directories { IfOk result (λ w. w.bad ≡ None
-        → map kept_of w.directories.items ≡ map (directory_in sizes.now (D.content disk.old)) (directories sizes.now (D.content disk.old))) }
+        → map kept_of w.directories.items ≡ map (directory_in sizes.now (D.content disk.old))
+        (directories sizes.now (D.content disk.old))) }
     ensures owners { IfOk result (λ w. length w.walk.owner.items ≡ sizes.now.blocks) }
-    ensures met { IfOk result (λ w. w.bad ≡ None → (b : ℕ) → met_by (slice_index w.walk.owner.items) b ≡ is_among (walked sizes.now (D.content disk.old)) b) }
-    ensures owner { IfOk result (λ w. w.bad ≡ None → (b : ℕ) → slice_index w.walk.owner.items b ≡ block_owner sizes.now (D.content disk.old) b) }
+    ensures met { IfOk result (λ w. w.bad ≡ None → (b : ℕ) → met_by (slice_index w.walk.owner.items) b
+        ≡ is_among (walked sizes.now (D.content disk.old)) b) }
+    ensures owner { IfOk result (λ w. w.bad ≡ None → (b : ℕ) → slice_index w.walk.owner.items b
+        ≡ block_owner sizes.now (D.content disk.old) b) }
     ensures err { IfErr result (Says (λ _ _. ⊥) (Rose (D.faults disk.old) (D.faults disk.new)) ⊤) }
     ensures content { D.content disk.new ≡ D.content disk.old }
     ensures faults { D.faults disk.old ≤ D.faults disk.new }
@@ -96,7 +100,8 @@ impl BlockWalk {
         ensures past { OnOk result (self.new.bad ≡ None → self.new.past ≡ past_size_flaw sizes.now (D.content disk.old)) }
         ensures tail { OnOk result (self.new.bad ≡ None → self.new.tail ≡ tail_flaw sizes.now (D.content disk.old)) }
         ensures directories { OnOk result (self.new.bad ≡ None
-            → map kept_of self.new.directories.items ≡ map (directory_in sizes.now (D.content disk.old)) (directories sizes.now (D.content disk.old))) }
+            → map kept_of self.new.directories.items ≡ map (directory_in sizes.now (D.content disk.old))
+            (directories sizes.now (D.content disk.old))) }
         ensures owners { OnOk result (length self.new.walk.owner.items ≡ sizes.now.blocks) }
         ensures met { OnOk result (self.new.bad ≡ None
             → (b : ℕ) → met_by (slice_index self.new.walk.owner.items) b ≡ is_among (walked sizes.now (D.content disk.old)) b) }
@@ -142,7 +147,8 @@ fn keep_directory(
 ) -> Result<(), NoMemory>
     requires inode { length inode.now ≡ 64 }
     ensures { OnOk result (reads_inode inode.now ≡ true → map kept_of directories.new.items
-        ≡ map kept_of directories.old.items ++ (if is_directory inode.now then record { inode = n; size = size_of inode.now; pages = pages.old.items } ∷ [] else [])) }
+        ≡ map kept_of directories.old.items
+        ++ (if is_directory inode.now then record { inode = n; size = size_of inode.now; pages = pages.old.items } ∷ [] else [])) }
 {
     let Some(size) = directory_size(&read_line(inode)) else {
         return Ok(());

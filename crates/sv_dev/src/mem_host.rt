@@ -1,5 +1,6 @@
 // The host in memory.
-ghost use Rattle.std.specs.Prelude.{◌≡◌, ◌≢◌, ◌⊎◌, ℕ, List, [], Some, None, IfOk, IfErr, OnOk, OnErr, IsNone, IsTrue, IsErrOf, replicate, MatchResult};
+ghost use Rattle.std.specs.Prelude.{◌≡◌, ◌≢◌, ◌⊎◌, ℕ, List, [], Some, None, IfOk, IfErr, OnOk, OnErr, IsNone, IsTrue, IsErrOf, replicate};
+ghost use Rattle.std.specs.Prelude.{MatchResult};
 ghost use Rattle.std.specs.Option.{option_copied};
 ghost use Rattle.sv_dev.specs.Causes.{HasHostCause, counted, faults_after};
 ghost use Rattle.sv_dev.specs.MemDiskSeen.{untouched_disk};
@@ -46,13 +47,22 @@ impl Image {
 }
 
 impl MemHost {
-    ghost use Rattle.sv_dev.specs.MemHost.{image_under, fails_under, text_under, counts_of, SameImages, SameOtherImages, SameTexts, SameOtherTexts};
+    ghost use Rattle.sv_dev.specs.MemHost.{image_under, fails_under, text_under, counts_of, SameImages, SameOtherImages, SameTexts};
+    ghost use Rattle.sv_dev.specs.MemHost.{SameOtherTexts};
 
     /// A host that holds no name. The calls with these numbers, from 1, fail.
     pub fn new(fails: Vec<u64>) -> MemHost
         ensures images { (name : List ℕ) → IsNone (image_under result name) }
         ensures texts { (name : List ℕ) → IsNone (text_under result name) }
-        ensures counts { counts_of result ≡ record { fails = fails.items; calls = 0; faults = 0; disk_faults = 0; source_faults = 0; sink_faults = 0; asked = 0 } }
+        ensures counts { counts_of result ≡ record {
+          fails = fails.items;
+          calls = 0;
+          faults = 0;
+          disk_faults = 0;
+          source_faults = 0;
+          sink_faults = 0;
+          asked = 0;
+        } }
     {
         MemHost {
             images: HashMap::new(*fails.allocator()),

@@ -157,7 +157,11 @@ impl Host for RealHost {
         disk: MirrorDisk,
     ) -> Result<(), HostFault>
         ensures cause { HasHostCause self.old.faults self.new.faults result }
-        ensures counts { self.new ≡ record self.old { faults = faults_after self.old.faults result; disk_faults = counted self.old.disk_faults disk.faults } }
+        ensures counts { self.new ≡ record self.old {
+          faults = faults_after self.old.faults result;
+          disk_faults = counted
+              self.old.disk_faults disk.faults;
+        } }
     {
         self.disk_faults = self.disk_faults.saturating_add(disk.faults());
         match disk.save(rt, name) {

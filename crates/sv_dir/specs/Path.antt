@@ -1,5 +1,6 @@
 -- What a path says.
-use Rattle.std.specs.Prelude.{◌≡◌, ◌≢◌, ◌<◌, ◌≤◌, ◌==◌, nat_le, not, ◌&&◌, if◌then◌else◌, ◌↔◌, ℕ, Bool, true, false, List, [], ◌∷◌, length, slice_index, slice_index_or, take, filter, All, Contains, IsTrue}
+use Rattle.std.specs.Prelude.{◌≡◌, ◌≢◌, ◌<◌, ◌≤◌, ◌==◌, nat_le, not, ◌&&◌, if◌then◌else◌, ◌↔◌, ℕ, Bool, true, false, List, [], ◌∷◌, length}
+use Rattle.std.specs.Prelude.{slice_index, slice_index_or, take, filter, All, Contains, IsTrue}
 use Rattle.std.specs.List.{slice_split, list_all}
 use Rattle.sv_form.specs.Name.{IsName}
 use Rattle.sv_dir.specs.declared.path.BadPath.{BadPath}
@@ -77,7 +78,8 @@ abbrev pub IsRefused : List ℕ → BadPath → Type 0
 IsRefused path why = Refuses path why × (why ≢ bad.NoMemory)
 
 abbrev pub IsSplitOneWay : Type 0
-IsSplitOneWay = (path : List ℕ) (words others : PathWords) → IsSplit path words → IsSplit path others → (words.names ≡ others.names) × (words.absolute ≡ others.absolute)
+IsSplitOneWay = (path : List ℕ) (words others : PathWords) → IsSplit path words → IsSplit path others → (words.names ≡ others.names)
+    × (words.absolute ≡ others.absolute)
 
 abbrev pub IsRefusedOneWay : Type 0
 IsRefusedOneWay = (path : List ℕ) (why other : BadPath) → IsRefused path why → IsRefused path other → why ≡ other

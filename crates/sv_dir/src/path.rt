@@ -3,7 +3,8 @@ ghost use Rattle.std.specs.Prelude.{◌≡◌, ◌≢◌, ◌<◌, ◌≤◌, �
 ghost use Rattle.sv_form.specs.Name.{IsName};
 ghost use Rattle.sv_dir.specs.declared.path.BadPath.{BadPath};
 ghost use Rattle.sv_dir.specs.declared.path.PathWords.{PathWords};
-ghost use Rattle.sv_dir.specs.Path.{IsFirstPiece, IsRefused, IsRefusedOneWay, IsSplit, IsSplitOneWay, IsSplitOrRefused, Refuses, RefusesName, RefusesPiece, has_no_zero, is_name, name_count, pieces};
+ghost use Rattle.sv_dir.specs.Path.{IsFirstPiece, IsRefused, IsRefusedOneWay, IsSplit, IsSplitOneWay, IsSplitOrRefused, Refuses};
+ghost use Rattle.sv_dir.specs.Path.{RefusesName, RefusesPiece, has_no_zero, is_name, name_count, pieces};
 
 use std::alloc::{AllocError, AllocFailed, Global};
 use std::marker::Model;

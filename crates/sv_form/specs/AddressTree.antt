@@ -48,7 +48,8 @@ reached_under n numbers (suc h) page b =
 -- all blocks that the addresses reach, in their order
 unfoldable pub reached : ℕ → Numbers → (ℕ → ℕ) → List Reached
 reached n numbers address =
-    flat_map (λ k. reached_under n numbers (height_of k) (first_page n k) (address k)) (filter (λ k. not (address k == 0)) (range_with_len 0 slots))
+    flat_map (λ k. reached_under n numbers (height_of k) (first_page n k) (address k))
+    (filter (λ k. not (address k == 0)) (range_with_len 0 slots))
 
 -- ---- all blocks, children first: the order in which they can be given back
 

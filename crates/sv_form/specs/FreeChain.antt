@@ -1,7 +1,8 @@
 -- The chain of free blocks (Bach, chapter 4.7), over a reader of the bytes in which a block has its list. A list has 1 to 50
 -- numbers. Its first, the link, is 0 or the block in which the next list stands; the others are free blocks. The last number
 -- is taken first.
-use Rattle.std.specs.Prelude.{◌≡◌, ◌≢◌, ◌≤◌, ◌-◌, ◌+◌, ◌*◌, ◌==◌, ℕ, zero, suc, List, [], ◌∷◌, length, map, take, slice_index, if◌then◌else◌}
+use Rattle.std.specs.Prelude.{◌≡◌, ◌≢◌, ◌≤◌, ◌-◌, ◌+◌, ◌*◌, ◌==◌, ℕ, zero, suc, List, [], ◌∷◌, length, map, take, slice_index}
+use Rattle.std.specs.Prelude.{if◌then◌else◌}
 use Rattle.std.specs.List.{range_with_len}
 use Rattle.sv_form.specs.LinkBlock.{IsLinkBlock}
 use Rattle.sv_form.specs.Number.{number16, number32}

@@ -20,6 +20,7 @@ inside_of-take n h =
     let whole : n.len ≤ length n.bytes = omega (arith, h.room, h.whole) in
     let len : length (take n.len n.bytes) ≡ n.len = length-take-le n.len n.bytes whole in
     let bytes : take n.len n.bytes ++ replicate (14 - length (take n.len n.bytes)) 0 ≡ n.bytes =
-    ap (λ (k : ℕ). take n.len n.bytes ++ replicate (14 - k) 0) len ∙ ap (λ (d : List ℕ). take n.len n.bytes ++ d) (sym h.filled) ∙ take-append-drop n.len n.bytes in
+    ap (λ (k : ℕ). take n.len n.bytes ++ replicate (14 - k) 0) len ∙ ap (λ (d : List ℕ). take n.len n.bytes ++ d) (sym h.filled)
+    ∙ take-append-drop n.len n.bytes in
     let kept : List ℕ → ℕ → Inside = λ b k. record { bytes = b; len = k } in
     ap (λ (b : List ℕ). kept b (length (take n.len n.bytes))) bytes ∙ ap (λ (k : ℕ). kept n.bytes k) len

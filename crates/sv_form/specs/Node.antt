@@ -1,6 +1,7 @@
 -- What a file is, apart from where its bytes lie: its kind, mode bits, links and size, and the pages that it has.
 -- There are no block numbers here.
-use Rattle.std.specs.Prelude.{◌+◌, ◌-◌, ◌*◌, ◌/◌, ◌%◌, ◌==◌, ℕ, Bool, true, false, List, [], ◌∷◌, map, Option, Some, None, nat_lt, slice_index, if◌then◌else◌, refl, ◌≡◌}
+use Rattle.std.specs.Prelude.{◌+◌, ◌-◌, ◌*◌, ◌/◌, ◌%◌, ◌==◌, ℕ, Bool, true, false, List, [], ◌∷◌, map, Option, Some, None, nat_lt}
+use Rattle.std.specs.Prelude.{slice_index, if◌then◌else◌, refl, ◌≡◌}
 use Rattle.std.specs.List.{range_with_len, flat_map}
 use Rattle.std.specs.Ordering.{nat_cmp}
 use Rattle.std.specs.Coded.{Coded, code_by, coded×, coded_ℕ, coded_bool, coded_list}
@@ -37,7 +38,8 @@ kind_back Dir = refl
 abbrev pub node_code : Coded Node
 node_code =
     code_by (Kind × (ℕ × (ℕ × (ℕ × fmap.FinMap nat_cmp (List ℕ)))))
-    (coded× (code_by Bool coded_bool is_dir kind_of kind_back) (coded× coded_ℕ (coded× coded_ℕ (coded× coded_ℕ (fmap.code coded_ℕ (coded_list coded_ℕ))))))
+    (coded× (code_by Bool coded_bool is_dir kind_of kind_back) (coded× coded_ℕ
+    (coded× coded_ℕ (coded× coded_ℕ (fmap.code coded_ℕ (coded_list coded_ℕ))))))
     (λ n. (n.kind, (n.mode, (n.links, (n.size, n.pages)))))
     (λ p. record { kind = p.0; mode = p.1.0; links = p.1.1.0; size = p.1.1.1.0; pages = p.1.1.1.1 })
     (λ _. refl)

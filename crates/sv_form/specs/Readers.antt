@@ -26,17 +26,20 @@ ReachTheSame = (n : ℕ) (p q : Numbers) (address : ℕ → ℕ) → All (AgreeA
 -- ---- chains
 
 abbrev pub ChainTheSame : Type 0
-ChainTheSame = (read other : ℕ → List ℕ) (list order : List ℕ) → All (λ b. other b ≡ read b) order → IsChain read list order → IsChain other list order
+ChainTheSame = (read other : ℕ → List ℕ) (list order : List ℕ) → All (λ b. other b ≡ read b) order → IsChain read list order
+    → IsChain other list order
 
 -- ---- files and directories
 
 -- two that agree on the pages that so many bytes from a place on lie in, or before them, give these bytes
 abbrev pub ShowTheSame : Type 0
 ShowTheSame = (block : ℕ) (p q : PageBytes) (from count : ℕ) → 0 < block
-    → ((page r : ℕ) → page * block < from + count → r < block → q page r ≡ p page r) → bytes_at block q from count ≡ bytes_at block p from count
+    → ((page r : ℕ) → page * block < from + count → r < block → q page r ≡ p page r)
+    → bytes_at block q from count ≡ bytes_at block p from count
 
 abbrev pub ListTheSame : Type 0
-ListTheSame = (count : ℕ) (p q : Pieces) → ((j : ℕ) → j < count → q j ≡ p j) → (j : ℕ) (e : Entry) → HasEntry count p j e → HasEntry count q j e
+ListTheSame = (count : ℕ) (p q : Pieces) → ((j : ℕ) → j < count → q j ≡ p j) → (j : ℕ) (e : Entry) → HasEntry count p j e
+    → HasEntry count q j e
 
 -- the inode and the name in an entry of a node are those in its piece
 pub record IsPieceOf (block : ℕ) (node : Node) (j : ℕ) : Type 0 where

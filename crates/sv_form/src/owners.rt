@@ -128,7 +128,8 @@ impl Owners {
         requires line { line < length self.now.owners }
         requires ranges { All (IsRange self.now.geometry) ranges.old.items }
         ensures lines { OnOk result (flat_map (range_lines self.now.geometry) ranges.new.items
-            ≡ flat_map (range_lines self.now.geometry) ranges.old.items ++ (if slice_index self.now.owners line == n then line ∷ [] else [])) }
+            ≡ flat_map (range_lines self.now.geometry) ranges.old.items
+            ++ (if slice_index self.now.owners line == n then line ∷ [] else [])) }
         ensures ranges { OnOk result (All (IsRange self.now.geometry) ranges.new.items) }
     {
         if self.owner[line] != n {

@@ -3,9 +3,13 @@
 use Rattle.std.specs.Prelude.{◌≡◌, ◌≤◌, ◌==◌, ℕ, Bool, true, false}
 use Rattle.sv_plain.specs.declared.entry.Entry.{Entry}
 use Rattle.sv_plain.specs.declared.op.Op.{Op}
-use Rattle.sv_plain.specs.declared.op.Op.TheVariants.{Look, Drop, Create, AddLink, Enter, SubLink, Unlink, Rmdir, OpenFile, CloseFile, DupFile, Read, Write, Seek, Trunc, Stat, Promise, Forgo, Sync, Purge}
+use Rattle.sv_plain.specs.declared.op.Op.TheVariants.{Look, Drop, Create, AddLink, Enter, SubLink, Unlink, Rmdir, OpenFile, CloseFile}
+use Rattle.sv_plain.specs.declared.op.Op.TheVariants.{DupFile, Read, Write, Seek, Trunc, Stat, Promise, Forgo, Sync, Purge}
 use Rattle.sv_plain.specs.declared.reply.Reply.{Reply}
-use Rattle.sv_plain.specs.declared.reply.Reply.TheVariants.{Found, NotFound, NotDir, Gone, Full, Fault, Kept, Freed, Late, LateMemory, Made, ManyLinks, NoInode, Raised, IsDir, Entered, Exists, Lowered, Removed, Plain, NotEmpty, Opened, Dupped, Got, Wrote, FaultAfter, At, Bad, Done, Status, Granted, NoSpace, TooBig}
+use Rattle.sv_plain.specs.declared.reply.Reply.TheVariants.{Found, NotFound, NotDir, Gone, Full, Fault, Kept, Freed, Late, LateMemory, Made}
+use Rattle.sv_plain.specs.declared.reply.Reply.TheVariants.{ManyLinks, NoInode, Raised, IsDir, Entered, Exists, Lowered, Removed, Plain}
+use Rattle.sv_plain.specs.declared.reply.Reply.TheVariants.{NotEmpty, Opened, Dupped, Got, Wrote, FaultAfter, At, Bad, Done, Status}
+use Rattle.sv_plain.specs.declared.reply.Reply.TheVariants.{Granted, NoSpace, TooBig}
 
 -- ---- which replies an op has
 

@@ -7,7 +7,8 @@ use Rattle.sv_plain.specs.declared.entry.Entry.{Entry}
 use Rattle.sv_plain.specs.declared.need.Need.{Need}
 use Rattle.sv_plain.specs.declared.need.Need.TheVariants as need
 use Rattle.sv_plain.specs.declared.op.Op.{Op}
-use Rattle.sv_plain.specs.declared.op.Op.TheVariants.{Look, Drop, Create, AddLink, Enter, SubLink, Unlink, Rmdir, OpenFile, CloseFile, DupFile, Read, Write, Seek, Trunc, Stat, Promise, Forgo, Sync, Purge}
+use Rattle.sv_plain.specs.declared.op.Op.TheVariants.{Look, Drop, Create, AddLink, Enter, SubLink, Unlink, Rmdir, OpenFile, CloseFile}
+use Rattle.sv_plain.specs.declared.op.Op.TheVariants.{DupFile, Read, Write, Seek, Trunc, Stat, Promise, Forgo, Sync, Purge}
 use Rattle.sv_plain.specs.declared.reply.Reply.{Reply}
 use Rattle.sv_plain.specs.declared.reply.Reply.TheVariants.{Found, Made, Removed, Opened, Got, Wrote, FaultAfter, At, Status, Granted}
 

@@ -173,4 +173,5 @@ sizes text = do
 
 -- the first line
 abbrev pub head : List ℕ → Option ((ℕ × ℕ) × List ℕ)
-head text = if pointwise nat_eq (first_word text).0 (codes "svj") then (this_word (codes "1") (first_word text).1 >>= λ form. sizes form.1) else None
+head text = if pointwise nat_eq (first_word text).0 (codes "svj") then (this_word (codes "1") (first_word text).1 >>= λ form. sizes form.1)
+    else None

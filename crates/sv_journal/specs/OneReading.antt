@@ -5,13 +5,15 @@ use Rattle.sv_journal.specs.declared.journal_fault.JournalFault.TheVariants as f
 use Rattle.sv_journal.specs.Reading.{IsJournalOf, IsRefused}
 
 -- two journals of one text are the same
-pub record IsSameJournal (processes table : ℕ) (entries : List Entry) (others_processes others_table : ℕ) (others : List Entry) : Type 0 where
+pub record IsSameJournal (processes table : ℕ) (entries : List Entry) (others_processes others_table : ℕ) (others : List Entry) : Type
+    0 where
   pub processes_are : processes ≡ others_processes
   pub table_is : table ≡ others_table
   pub entries_are : entries ≡ others
 
 abbrev pub IsReadOneWay : Type 0
-IsReadOneWay = (text : List ℕ) (p t q u : ℕ) (xs ys : List Entry) → IsJournalOf text p t xs → IsJournalOf text q u ys → IsSameJournal p t xs q u ys
+IsReadOneWay = (text : List ℕ) (p t q u : ℕ) (xs ys : List Entry) → IsJournalOf text p t xs → IsJournalOf text q u ys
+    → IsSameJournal p t xs q u ys
 
 -- a text is refused at one line
 abbrev pub IsRefusedOneWay : Type 0

@@ -27,7 +27,9 @@ op_name_text names.Sync = codes "sync"
 op_name_text names.Purge = codes "purge"
 
 abbrev pub all_op_names : List OpName
-all_op_names = names.Look ∷ names.Drop ∷ names.Create ∷ names.AddLink ∷ names.Enter ∷ names.SubLink ∷ names.Unlink ∷ names.Rmdir ∷ names.OpenFile ∷ names.CloseFile ∷ names.DupFile ∷ names.Read ∷ names.Write ∷ names.Seek ∷ names.Trunc ∷ names.Stat ∷ names.Promise ∷ names.Forgo ∷ names.Sync ∷ names.Purge ∷ []
+all_op_names = names.Look ∷ names.Drop ∷ names.Create ∷ names.AddLink ∷ names.Enter ∷ names.SubLink ∷ names.Unlink ∷ names.Rmdir
+    ∷ names.OpenFile ∷ names.CloseFile ∷ names.DupFile ∷ names.Read ∷ names.Write ∷ names.Seek ∷ names.Trunc ∷ names.Stat ∷ names.Promise
+    ∷ names.Forgo ∷ names.Sync ∷ names.Purge ∷ []
 
 -- the op that has this word for its name, if there is one
 abbrev pub op_name : List ℕ → Option OpName

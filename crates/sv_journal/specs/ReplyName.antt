@@ -40,7 +40,10 @@ reply_name_text names.NoSpace = codes "nospace"
 reply_name_text names.TooBig = codes "toobig"
 
 abbrev pub all_reply_names : List ReplyName
-all_reply_names = names.Found ∷ names.NotFound ∷ names.NotDir ∷ names.Gone ∷ names.Full ∷ names.Fault ∷ names.Kept ∷ names.Freed ∷ names.Late ∷ names.LateMemory ∷ names.Made ∷ names.ManyLinks ∷ names.NoInode ∷ names.Raised ∷ names.IsDir ∷ names.Entered ∷ names.Exists ∷ names.Lowered ∷ names.Removed ∷ names.Plain ∷ names.NotEmpty ∷ names.Opened ∷ names.Dupped ∷ names.Got ∷ names.Wrote ∷ names.FaultAfter ∷ names.At ∷ names.Bad ∷ names.Done ∷ names.Status ∷ names.Granted ∷ names.NoSpace ∷ names.TooBig ∷ []
+all_reply_names = names.Found ∷ names.NotFound ∷ names.NotDir ∷ names.Gone ∷ names.Full ∷ names.Fault ∷ names.Kept ∷ names.Freed
+    ∷ names.Late ∷ names.LateMemory ∷ names.Made ∷ names.ManyLinks ∷ names.NoInode ∷ names.Raised ∷ names.IsDir ∷ names.Entered
+    ∷ names.Exists ∷ names.Lowered ∷ names.Removed ∷ names.Plain ∷ names.NotEmpty ∷ names.Opened ∷ names.Dupped ∷ names.Got ∷ names.Wrote
+    ∷ names.FaultAfter ∷ names.At ∷ names.Bad ∷ names.Done ∷ names.Status ∷ names.Granted ∷ names.NoSpace ∷ names.TooBig ∷ []
 
 -- the reply that has this word for its name, if there is one
 abbrev pub reply_name : List ℕ → Option ReplyName

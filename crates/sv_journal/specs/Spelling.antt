@@ -12,9 +12,13 @@ use Rattle.sv_plain.specs.declared.mode.Mode.TheVariants.{R, W, RW}
 use Rattle.sv_plain.specs.declared.need.Need.{Need}
 use Rattle.sv_plain.specs.declared.need.Need.TheVariants as need
 use Rattle.sv_plain.specs.declared.op.Op.{Op}
-use Rattle.sv_plain.specs.declared.op.Op.TheVariants.{Look, Drop, Create, AddLink, Enter, SubLink, Unlink, Rmdir, OpenFile, CloseFile, DupFile, Read, Write, Seek, Trunc, Stat, Promise, Forgo, Sync, Purge}
+use Rattle.sv_plain.specs.declared.op.Op.TheVariants.{Look, Drop, Create, AddLink, Enter, SubLink, Unlink, Rmdir, OpenFile, CloseFile}
+use Rattle.sv_plain.specs.declared.op.Op.TheVariants.{DupFile, Read, Write, Seek, Trunc, Stat, Promise, Forgo, Sync, Purge}
 use Rattle.sv_plain.specs.declared.reply.Reply.{Reply}
-use Rattle.sv_plain.specs.declared.reply.Reply.TheVariants.{Found, NotFound, NotDir, Gone, Full, Fault, Kept, Freed, Late, LateMemory, Made, ManyLinks, NoInode, Raised, IsDir, Entered, Exists, Lowered, Removed, Plain, NotEmpty, Opened, Dupped, Got, Wrote, FaultAfter, At, Bad, Done, Status, Granted, NoSpace, TooBig}
+use Rattle.sv_plain.specs.declared.reply.Reply.TheVariants.{Found, NotFound, NotDir, Gone, Full, Fault, Kept, Freed, Late, LateMemory, Made}
+use Rattle.sv_plain.specs.declared.reply.Reply.TheVariants.{ManyLinks, NoInode, Raised, IsDir, Entered, Exists, Lowered, Removed, Plain}
+use Rattle.sv_plain.specs.declared.reply.Reply.TheVariants.{NotEmpty, Opened, Dupped, Got, Wrote, FaultAfter, At, Bad, Done, Status}
+use Rattle.sv_plain.specs.declared.reply.Reply.TheVariants.{Granted, NoSpace, TooBig}
 
 -- ---- words
 
@@ -106,7 +110,8 @@ reply_text (FaultAfter count) = numbered (codes "faultafter") count
 reply_text (At offset) = numbered (codes "at") offset
 reply_text Bad = codes "bad"
 reply_text Done = codes "done"
-reply_text (Status kind mode links size) = codes "is " ++ kind_text kind ++ codes " " ++ octal mode ++ codes " " ++ decimal links ++ codes " " ++ decimal size
+reply_text (Status kind mode links size) = codes "is " ++ kind_text kind ++ codes " " ++ octal mode ++ codes " " ++ decimal links ++ codes
+    " " ++ decimal size
 reply_text (Granted count) = numbered (codes "granted") count
 reply_text NoSpace = codes "nospace"
 reply_text TooBig = codes "toobig"

@@ -1,5 +1,6 @@
 -- What a single word of a line can be.
-use Rattle.std.specs.Prelude.{◌==◌, nat_lt, nat_le, ◌&&◌, ◌||◌, not, if◌then◌else◌, ℕ, ℤ, pos, neg_ℤ, Bool, List, [], length, drop, slice_index, codes, nat_eq, Option, Some, None, Result, Ok, Err}
+use Rattle.std.specs.Prelude.{◌==◌, nat_lt, nat_le, ◌&&◌, ◌||◌, not, if◌then◌else◌, ℕ, ℤ, pos, neg_ℤ, Bool, List, [], length, drop}
+use Rattle.std.specs.Prelude.{slice_index, codes, nat_eq, Option, Some, None, Result, Ok, Err}
 use Rattle.std.specs.List.{list_all}
 use Rattle.std.specs.Cmp.Lexicographic.{pointwise}
 use Rattle.std.specs.Char.{digit_value}
@@ -37,7 +38,8 @@ below_zero n = if n == 0 then None else Some (neg_ℤ (pos n))
 -- a number of 64 bits, with a minus sign exactly where it is below zero
 abbrev pub offset_of : List ℕ → Option ℤ
 offset_of word =
-    if slice_index word 0 == 45 then (number_of 10 9223372036854775808 (drop 1 word) >>= below_zero) else (number_of 10 9223372036854775807 word >>= λ n. Some (pos n))
+    if slice_index word 0 == 45 then (number_of 10 9223372036854775808 (drop 1 word) >>= below_zero) else
+    (number_of 10 9223372036854775807 word >>= λ n. Some (pos n))
 
 -- ---- bytes
 

@@ -1,6 +1,9 @@
 // Which entries a journal may hold.
 ghost use Rattle.std.specs.Prelude.{◌≡◌};
-ghost use Rattle.sv_journal.specs.Allowed.{answers_look, answers_last, answers_create, answers_add_link, answers_enter, answers_sub_link, answers_unlink, answers_rmdir, answers_open, answers_dup, answers_read, answers_write, answers_seek, answers_trunc, answers_stat, answers_promise, answers_forgo, answers_sync, answers_purge, is_reply_of};
+ghost use Rattle.sv_journal.specs.Allowed.{answers_look, answers_last, answers_create, answers_add_link, answers_enter, answers_sub_link};
+ghost use Rattle.sv_journal.specs.Allowed.{answers_unlink, answers_rmdir, answers_open, answers_dup, answers_read, answers_write};
+ghost use Rattle.sv_journal.specs.Allowed.{answers_seek, answers_trunc, answers_stat, answers_promise, answers_forgo, answers_sync};
+ghost use Rattle.sv_journal.specs.Allowed.{answers_purge, is_reply_of};
 ghost use Rattle.sv_journal.specs.Grammar.{is_allowed, is_asked_by};
 
 use sv_plain::{Entry, Op, Reply};

@@ -1,7 +1,8 @@
 // One line of a journal.
 ghost use Rattle.std.specs.Prelude.{◌≡◌, ◌++◌, IfOk};
 ghost use Rattle.std.specs.String.{string_bytes};
-ghost use Rattle.sv_journal.specs.Spelling.{bytes_text, entry_line, head_line, kind_text, made_text, mode_text, need_text, op_text, place_text, reply_text};
+ghost use Rattle.sv_journal.specs.Spelling.{bytes_text, entry_line, head_line, kind_text, made_text, mode_text, need_text, op_text};
+ghost use Rattle.sv_journal.specs.Spelling.{place_text, reply_text};
 
 use std::alloc::{AllocError, Global};
 use std::fmt::Write;

@@ -2,7 +2,8 @@
 ghost use Rattle.std.specs.Prelude.{◌≡◌, ◌≤◌, IfSome};
 ghost use Rattle.std.specs.List.{list_all};
 ghost use Rattle.sv_journal.specs.Outcome.{Gives};
-ghost use Rattle.sv_journal.specs.Word.{below_zero, bytes_of, has_leading_zero, hex_of, is_lower_hex, kind_of, mode_of, name_from, name_of, number_of, offset_of, value_of};
+ghost use Rattle.sv_journal.specs.Word.{below_zero, bytes_of, has_leading_zero, hex_of, is_lower_hex, kind_of, mode_of, name_from, name_of};
+ghost use Rattle.sv_journal.specs.Word.{number_of, offset_of, value_of};
 
 use crate::refusal::Refusal;
 use hex::FromHexError;

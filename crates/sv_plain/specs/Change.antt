@@ -40,7 +40,8 @@ abbrev pub one_more : Fs → ℕ → ℕ → fmap.FinMap pair_cmp ℕ
 one_more fs p i = fmap.insert fs.references (p, i) (references_of fs p i + 1)
 
 abbrev pub one_less : Fs → ℕ → ℕ → fmap.FinMap pair_cmp ℕ
-one_less fs p i = if nat_le (references_of fs p i) 1 then fmap.remove fs.references (p, i) else fmap.insert fs.references (p, i) (references_of fs p i - 1)
+one_less fs p i = if nat_le (references_of fs p i) 1 then fmap.remove fs.references (p, i) else fmap.insert fs.references (p, i)
+    (references_of fs p i - 1)
 
 -- a promise less the blocks used; a process without one has none then either
 abbrev pub spent_from : fmap.FinMap nat_cmp ℕ → ℕ → ℕ → Option ℕ → fmap.FinMap nat_cmp ℕ
@@ -66,7 +67,8 @@ with_offset offset file = record file { offset = offset }
 -- one share less: the file goes with the last
 abbrev pub unshared : Fs → ℕ → Option Opening → fmap.FinMap nat_cmp Opening
 unshared fs n None = fs.files
-unshared fs n (Some file) = if nat_le file.count 1 then fmap.remove fs.files n else fmap.insert fs.files n (record file { count = file.count - 1 })
+unshared fs n (Some file) = if nat_le file.count 1 then fmap.remove fs.files n else fmap.insert fs.files n
+    (record file { count = file.count - 1 })
 
 -- ---- whole states
 

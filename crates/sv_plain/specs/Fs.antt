@@ -1,5 +1,6 @@
 -- The state of the one-process file system.
-use Rattle.std.specs.Prelude.{◌≡◌, ◌+◌, ◌-◌, ◌==◌, ◌&&◌, ℕ, zero, suc, Bool, not, List, Option, Some, None, option_map, option_and_then, nat_lt, refl, if◌then◌else◌}
+use Rattle.std.specs.Prelude.{◌≡◌, ◌+◌, ◌-◌, ◌==◌, ◌&&◌, ℕ, zero, suc, Bool, not, List, Option, Some, None, option_map, option_and_then}
+use Rattle.std.specs.Prelude.{nat_lt, refl, if◌then◌else◌}
 use Rattle.std.specs.List.{range_with_len, count_by}
 use Rattle.std.specs.Ordering.{nat_cmp}
 use Rattle.std.specs.Coded.{Coded, code_by, coded×, coded_ℕ}
@@ -177,13 +178,31 @@ opening_code =
     (λ _. refl)
 
 abbrev Stored : Type 0
-Stored = map.FinMap nat_cmp Node × (map.FinMap pair_cmp ℕ × (map.FinMap nat_cmp Opening × (map.FinMap nat_cmp ℕ × (map.FinMap nat_cmp ℕ × (ℕ × (ℕ × (ℕ × (ℕ × ℕ))))))))
+Stored = map.FinMap nat_cmp Node × (map.FinMap pair_cmp ℕ × (map.FinMap nat_cmp Opening
+    × (map.FinMap nat_cmp ℕ × (map.FinMap nat_cmp ℕ × (ℕ × (ℕ × (ℕ × (ℕ × ℕ))))))))
 
 abbrev pub fs_code : Coded Fs
 fs_code =
     code_by Stored
-    (coded× (map.code coded_ℕ node_code) (coded× (map.code (coded× coded_ℕ coded_ℕ) coded_ℕ) (coded× (map.code coded_ℕ opening_code) (coded× (map.code coded_ℕ coded_ℕ) (coded× (map.code coded_ℕ coded_ℕ) (coded× coded_ℕ (coded× coded_ℕ (coded× coded_ℕ (coded× coded_ℕ coded_ℕ)))))))))
-    (λ fs. (fs.nodes, (fs.references, (fs.files, (fs.promises, (fs.pending, (fs.block, (fs.greatest, (fs.data_blocks, (fs.inodes, fs.places))))))))))
+    (coded× (map.code coded_ℕ node_code) (coded× (map.code (coded× coded_ℕ coded_ℕ) coded_ℕ)
+    (coded× (map.code coded_ℕ opening_code) (coded× (map.code coded_ℕ coded_ℕ)
+    (coded× (map.code coded_ℕ coded_ℕ) (coded× coded_ℕ (coded× coded_ℕ (coded× coded_ℕ (coded× coded_ℕ coded_ℕ)))))))))
+    (λ fs. (
+      fs.nodes,
+      (
+        fs.references,
+        (
+          fs.files,
+          (
+            fs.promises,
+            (
+              fs.pending,
+              (fs.block, (fs.greatest, (fs.data_blocks, (fs.inodes, fs.places)))),
+            ),
+          ),
+        ),
+      ),
+    ))
     (λ p. record {
       nodes = p.0;
       references = p.1.0;

@@ -26,7 +26,8 @@ fs_of a = record {
 
 -- the blocks of each node are kept as a set
 abbrev pub AreBlocksOf : ℕ → map.FinMap nat_cmp Node → map.FinMap nat_cmp (set.FinSet pair_cmp) → Type 0
-AreBlocksOf block nodes blocks = (i : ℕ) → map.get blocks i ≡ option_map (λ node. block_set (numbers_per block) (map.keys node.pages)) (map.get nodes i)
+AreBlocksOf block nodes blocks = (i : ℕ) → map.get blocks i ≡ option_map (λ node. block_set (numbers_per block) (map.keys node.pages))
+    (map.get nodes i)
 
 pub record IsKept (a : Inside) : Type 0 where
   pub sized : IsSized a.block_size a.greatest a.inodes

@@ -18,7 +18,8 @@ front_text i node = codes "inode " ++ decimal i ++ codes " " ++ kind_word node.k
 
 -- links, size in bytes, and how many pages are present
 abbrev pub counts_text : ℕ → ℕ → ℕ → List ℕ
-counts_text links size pages = codes " links " ++ decimal links ++ codes " size " ++ decimal size ++ codes " pages " ++ decimal pages ++ codes "\n"
+counts_text links size pages = codes " links " ++ decimal links ++ codes " size " ++ decimal size ++ codes " pages " ++ decimal pages
+    ++ codes "\n"
 
 abbrev pub node_line : ℕ → Node → List ℕ
 node_line i node = front_text i node ++ counts_text node.links node.size (map.len node.pages)

@@ -11,7 +11,8 @@ use Rattle.sv_plain.specs.Names.{is_open_to_names, child}
 
 -- what a write of `count` bytes takes
 abbrev pub write_need : Fs → ℕ → ℕ → ℕ
-write_need fs file count = at_or_0 (λ f. at_or_0 (λ node. range_need fs.block node f.offset count) (map.get fs.nodes f.inode)) (map.get fs.files file)
+write_need fs file count = at_or_0 (λ f. at_or_0 (λ node. range_need fs.block node f.offset count) (map.get fs.nodes f.inode))
+    (map.get fs.files file)
 
 -- nothing can be entered in d under this name
 abbrev pub enters_nothing : Fs → ℕ → List ℕ → Bool

@@ -24,8 +24,10 @@ pub record CountsReferences (fs : Fs) (p i : ℕ) : Type 0 where
 
 -- a file more is a share more of its inode, and a file less one share less
 pub record CountsFiles (fs : Fs) (f : ℕ) (file : Opening) : Type 0 where
-  pub more : map.get fs.files f ≡ None → (j : ℕ) → shares fs.references (map.insert fs.files f file) j ≡ shares_of fs j + one_if (file.inode == j)
-  pub less : map.get fs.files f ≡ Some file → (j : ℕ) → shares fs.references (map.remove fs.files f) j + one_if (file.inode == j) ≡ shares_of fs j
+  pub more : map.get fs.files f ≡ None → (j : ℕ) → shares fs.references (map.insert fs.files f file) j ≡ shares_of fs j
+      + one_if (file.inode == j)
+  pub less : map.get fs.files f ≡ Some file → (j : ℕ) → shares fs.references (map.remove fs.files f) j + one_if (file.inode == j)
+      ≡ shares_of fs j
 
 -- an inode has no shares exactly where nothing refers to it
 pub record HasNoShares (fs : Fs) (i : ℕ) : Type 0 where

@@ -2,7 +2,8 @@
 -- and what each reply changes. A reply has its whole cause: the causes of the replies before it are excluded by the words
 -- that they share. A fault is always among the replies of the ops that have it: whether the device failed is not said
 -- here.
-use Rattle.std.specs.Prelude.{◌≡◌, ◌+◌, ◌-◌, ◌%◌, ◌==◌, ◌&&◌, ◌||◌, ℕ, ℤ, pos, negsuc, ◌+ℤ◌, Bool, true, false, not, List, [], ◌∷◌, length, take, min, Option, Some, None, nat_le, nat_lt, if◌then◌else◌}
+use Rattle.std.specs.Prelude.{◌≡◌, ◌+◌, ◌-◌, ◌%◌, ◌==◌, ◌&&◌, ◌||◌, ℕ, ℤ, pos, negsuc, ◌+ℤ◌, Bool, true, false, not, List, [], ◌∷◌, length}
+use Rattle.std.specs.Prelude.{take, min, Option, Some, None, nat_le, nat_lt, if◌then◌else◌}
 use Rattle.std.specs.FinMap as map
 use Rattle.sv_form.specs.declared.kind.Kind.{Kind}
 use Rattle.sv_form.specs.declared.kind.Kind.TheVariants.{File, Dir}
@@ -13,15 +14,21 @@ use Rattle.sv_plain.specs.declared.opening.Opening.{Opening}
 use Rattle.sv_plain.specs.declared.need.Need.{Need}
 use Rattle.sv_plain.specs.declared.need.Need.TheVariants as need
 use Rattle.sv_plain.specs.declared.op.Op.{Op}
-use Rattle.sv_plain.specs.declared.op.Op.TheVariants.{Look, Drop, Create, AddLink, Enter, SubLink, Unlink, Rmdir, OpenFile, CloseFile, DupFile, Read, Write, Seek, Trunc, Stat, Promise, Forgo, Sync, Purge}
+use Rattle.sv_plain.specs.declared.op.Op.TheVariants.{Look, Drop, Create, AddLink, Enter, SubLink, Unlink, Rmdir, OpenFile, CloseFile}
+use Rattle.sv_plain.specs.declared.op.Op.TheVariants.{DupFile, Read, Write, Seek, Trunc, Stat, Promise, Forgo, Sync, Purge}
 use Rattle.sv_plain.specs.declared.reply.Reply.{Reply}
-use Rattle.sv_plain.specs.declared.reply.Reply.TheVariants.{Found, NotFound, NotDir, Gone, Full, Fault, Kept, Freed, Late, LateMemory, Made, ManyLinks, NoInode, Raised, IsDir, Entered, Exists, Lowered, Removed, Plain, NotEmpty, Opened, Dupped, Got, Wrote, FaultAfter, At, Bad, Done, Status, Granted, NoSpace, TooBig}
+use Rattle.sv_plain.specs.declared.reply.Reply.TheVariants.{Found, NotFound, NotDir, Gone, Full, Fault, Kept, Freed, Late, LateMemory, Made}
+use Rattle.sv_plain.specs.declared.reply.Reply.TheVariants.{ManyLinks, NoInode, Raised, IsDir, Entered, Exists, Lowered, Removed, Plain}
+use Rattle.sv_plain.specs.declared.reply.Reply.TheVariants.{NotEmpty, Opened, Dupped, Got, Wrote, FaultAfter, At, Bad, Done, Status}
+use Rattle.sv_plain.specs.declared.reply.Reply.TheVariants.{Granted, NoSpace, TooBig}
 use Rattle.sv_plain.specs.Totals.{at_or_0}
 use Rattle.sv_plain.specs.Fs.{Fs, is_referenced, is_full_for, free_inodes, room, changed}
-use Rattle.sv_plain.specs.Names.{some_and, same_bytes, same_kind, has_more, is_directory, links_of, is_missing, child_passes, has_reference, promise_of, is_pending, is_opened, is_lowest_unused, is_table_full, is_idle, is_lost}
+use Rattle.sv_plain.specs.Names.{some_and, same_bytes, same_kind, has_more, is_directory, links_of, is_missing, child_passes, has_reference}
+use Rattle.sv_plain.specs.Names.{promise_of, is_pending, is_opened, is_lowest_unused, is_table_full, is_idle, is_lost}
 use Rattle.sv_plain.specs.Needs.{write_need, enter_need, make_need, need_of}
 use Rattle.sv_form.specs.NodeChanges.{put, emptied}
-use Rattle.sv_plain.specs.Change.{with_entry, without_entry, with_links, new_node, one_more, one_less, spent, changed_file, with_offset, with_reference, without_reference, without_share, without_node, without_lost}
+use Rattle.sv_plain.specs.Change.{with_entry, without_entry, with_links, new_node, one_more, one_less, spent, changed_file, with_offset}
+use Rattle.sv_plain.specs.Change.{with_reference, without_reference, without_share, without_node, without_lost}
 
 -- ---- Look
 
@@ -108,7 +115,8 @@ links_made Dir links = links + 1
 abbrev pub create_change : Fs → ℕ → ℕ → List ℕ → Kind → ℕ → Reply → Fs
 create_change fs p d name kind mode (Found i) = with_reference fs p i
 create_change fs p d name kind mode (Made i) = record fs {
-  nodes = map.insert (changed fs.nodes d (λ node. with_links (links_made kind) (with_entry fs.block i name node))) i (new_node fs.block i d mode kind);
+  nodes = map.insert (changed fs.nodes d (λ node. with_links (links_made kind) (with_entry fs.block i name node))) i
+      (new_node fs.block i d mode kind);
   references = one_more fs p i;
   promises = spent fs p (create_need fs d name kind);
 }
@@ -210,7 +218,8 @@ rmdir_replies fs d name NotFound = is_missing fs d name
 rmdir_replies fs d name Full = child_passes fs d name (is_full_for fs)
 rmdir_replies fs d name Plain = child_passes fs d name (λ c. not (is_full_for fs c) && not (is_directory fs c))
 rmdir_replies fs d name NotEmpty = child_passes fs d name (λ c. not (is_full_for fs c) && (is_directory fs c && is_in_use fs c))
-rmdir_replies fs d name (Removed i) = child_passes fs d name (λ c. (c == i) && (not (is_full_for fs c) && (is_directory fs c && not (is_in_use fs c))))
+rmdir_replies fs d name (Removed i) = child_passes fs d name (λ c. (c == i)
+    && (not (is_full_for fs c) && (is_directory fs c && not (is_in_use fs c))))
 rmdir_replies fs d name Fault = true
 rmdir_replies fs d name _ = false
 
@@ -289,7 +298,8 @@ file_bytes block node offset count = bytes_of block node offset (min count (node
 
 abbrev pub read_replies : Fs → ℕ → ℕ → Reply → Bool
 read_replies fs file count (Got bytes) =
-    some_and (map.get fs.files file) (λ f. some_and (map.get fs.nodes f.inode) (λ node. same_bytes bytes (file_bytes fs.block node f.offset count)))
+    some_and (map.get fs.files file) (λ f. some_and (map.get fs.nodes f.inode)
+    (λ node. same_bytes bytes (file_bytes fs.block node f.offset count)))
 read_replies fs file count Fault = true
 read_replies fs file count _ = false
 
@@ -378,7 +388,8 @@ stat_allowed fs p i = has_reference fs p i || is_opened fs i
 
 abbrev pub stat_replies : Fs → ℕ → Reply → Bool
 stat_replies fs i (Status kind mode links size) =
-    some_and (map.get fs.nodes i) (λ node. same_kind node.kind kind && ((node.mode == mode) && ((node.links == links) && (node.size == size))))
+    some_and (map.get fs.nodes i) (λ node. same_kind node.kind kind && ((node.mode == mode)
+    && ((node.links == links) && (node.size == size))))
 stat_replies fs i Fault = true
 stat_replies fs i _ = false
 

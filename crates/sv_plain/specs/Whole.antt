@@ -1,5 +1,6 @@
 -- What holds of a file system at every moment.
-use Rattle.std.specs.Prelude.{◌≡◌, ◌≢◌, ◌≤◌, ◌<◌, ◌+◌, ◌*◌, ◌%◌, ◌^◌, ℕ, zero, suc, true, List, [], ◌∷◌, length, replicate, Some, IsSome, slice_index}
+use Rattle.std.specs.Prelude.{◌≡◌, ◌≢◌, ◌≤◌, ◌<◌, ◌+◌, ◌*◌, ◌%◌, ◌^◌, ℕ, zero, suc, true, List, [], ◌∷◌, length, replicate, Some, IsSome}
+use Rattle.std.specs.Prelude.{slice_index}
 use Rattle.std.specs.Ordering.{nat_cmp}
 use Rattle.std.specs.FinMap as map
 use Rattle.sv_form.specs.declared.kind.Kind.TheVariants.{File, Dir}
@@ -48,7 +49,8 @@ pub record IsDirectory (block i : ℕ) (node : Node) : Type 0 where
   pub entries : node.size % 16 ≡ 0
   pub present : (k : ℕ) → k * block < node.size → IsSome (map.get node.pages k)
   pub reads : (j : ℕ) → j < entry_count node → IsEntryAt block node j
-  pub once : (j k : ℕ) → j < k → k < entry_count node → entry_inode block node j ≢ 0 → entry_inode block node k ≢ 0 → entry_name block node j ≢ entry_name block node k
+  pub once : (j k : ℕ) → j < k → k < entry_count node → entry_inode block node j ≢ 0 → entry_inode block node k ≢ 0
+      → entry_name block node j ≢ entry_name block node k
   pub dot : entry_inode block node 0 ≡ i
   pub dot_name : entry_name block node 0 ≡ 46 ∷ []
   pub dots : entry_inode block node 1 ≢ 0
@@ -89,10 +91,12 @@ pub record IsFileOf (greatest : ℕ) (nodes : map.FinMap nat_cmp Node) (f : Open
 pub record IsWhole (fs : Fs) : Type 0 where
   pub sized : IsSized fs.block fs.greatest fs.inodes
   pub nodes : (i : ℕ) (node : Node) → map.get fs.nodes i ≡ Some node → IsNode fs.block fs.greatest fs.inodes i node
-  pub links : (i : ℕ) (node : Node) → map.get fs.nodes i ≡ Some node → (node.links ≤ 1000) × (node.links ≡ namings fs.block fs.nodes i + pending_on fs.pending i)
+  pub links : (i : ℕ) (node : Node) → map.get fs.nodes i ≡ Some node → (node.links ≤ 1000)
+      × (node.links ≡ namings fs.block fs.nodes i + pending_on fs.pending i)
   pub blocks : used_by_all fs.block fs.nodes + promised fs.promises ≤ fs.data_blocks
   pub directories : EachLive fs.nodes (IsDirectory fs.block)
-  pub named : EachLive fs.nodes (λ _ node. (j : ℕ) → j < entry_count node → entry_inode fs.block node j ≢ 0 → IsSome (map.get fs.nodes (entry_inode fs.block node j)))
+  pub named : EachLive fs.nodes (λ _ node. (j : ℕ) → j < entry_count node → entry_inode fs.block node j ≢ 0
+      → IsSome (map.get fs.nodes (entry_inode fs.block node j)))
   pub root : IsRoot fs.block fs.nodes
   pub placed : EachLive fs.nodes (λ d node. d ≢ 2 → IsPlaced fs.block fs.nodes d (entry_inode fs.block node 1))
   pub ascends : EachLive fs.nodes (λ d _. (k : ℕ) × (ascend fs.block fs.nodes k d ≡ 2))

@@ -1,5 +1,6 @@
 // Nodes by inode number.
-ghost use Rattle.std.specs.Prelude.{ℕ, ◌≡◌, ◌≢◌, true, false, Some, None, IsSome, IsOk, IfSome, IfNone, OnOk, OnErr, option_copied, option_map};
+ghost use Rattle.std.specs.Prelude.{ℕ, ◌≡◌, ◌≢◌, true, false, Some, None, IsSome, IsOk, IfSome, IfNone, OnOk, OnErr, option_copied};
+ghost use Rattle.std.specs.Prelude.{option_map};
 ghost use Rattle.std.specs.FinMap as map;
 ghost use Rattle.sv_plain.specs.Fs.{changed};
 ghost use Rattle.sv_plain.specs.Change.{with_links};

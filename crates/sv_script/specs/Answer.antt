@@ -85,4 +85,5 @@ IsAnswer call (answers.ErrorAfter count) = count < 2 ^ 32
 
 -- no two answers of a call have one text
 abbrev pub HaveOwnTexts : Type 0
-HaveOwnTexts = (line : ℕ) (call : Call) (a b : Answer) → IsAnswer call a → IsAnswer call b → answer_text line call a ≡ answer_text line call b → a ≡ b
+HaveOwnTexts = (line : ℕ) (call : Call) (a b : Answer) → IsAnswer call a → IsAnswer call b
+    → answer_text line call a ≡ answer_text line call b → a ≡ b

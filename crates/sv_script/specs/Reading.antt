@@ -1,5 +1,6 @@
 -- Which lines a text has, and which of them is the first at fault.
-use Rattle.std.specs.Prelude.{◌≡◌, ◌≢◌, ◌<◌, ◌≤◌, ◌+◌, ◌-◌, ◌==◌, nat_lt, ◌||◌, if◌then◌else◌, ℕ, Bool, List, [], ◌∷◌, ◌++◌, Option, Some, None, Result, Ok, Err, length, take, slice_index, slice_index_or, ◌⊎◌}
+use Rattle.std.specs.Prelude.{◌≡◌, ◌≢◌, ◌<◌, ◌≤◌, ◌+◌, ◌-◌, ◌==◌, nat_lt, ◌||◌, if◌then◌else◌, ℕ, Bool, List, [], ◌∷◌, ◌++◌, Option, Some}
+use Rattle.std.specs.Prelude.{None, Result, Ok, Err, length, take, slice_index, slice_index_or, ◌⊎◌}
 use Rattle.sv_script.specs.declared.call.Call.{Call}
 use Rattle.sv_script.specs.declared.line.Line.{Line}
 use Rattle.sv_script.specs.declared.fault.ScriptFault.{ScriptFault}
@@ -35,7 +36,8 @@ script_of lines = script_from 1 lines
 -- so many lines, path components and asked bytes are too many
 abbrev pub limit_of : ℕ → ℕ → ℕ → Option ScriptFault
 limit_of number components asked =
-    if nat_lt 16384 number then Some faults.Lines else if nat_lt 65536 components then Some faults.Lines else if nat_lt 4194304 asked then Some faults.Volume
+    if nat_lt 16384 number then Some faults.Lines else if nat_lt 65536 components then Some faults.Lines else if nat_lt 4194304 asked then
+    Some faults.Volume
     else None
 
 abbrev pub limit_fault : ℕ → List Line → Option ScriptFault
@@ -91,8 +93,10 @@ IsReadOneWay = (text : List ℕ) (script other : List Line) → IsScriptOf text 
 
 -- memory aside, a text is refused at one line for one fault
 abbrev pub IsRefusedOneWay : Type 0
-IsRefusedOneWay = (text : List ℕ) (m n : ℕ) (f g : ScriptFault) → IsRefused text m f → IsRefused text n g → f ≢ faults.NoMemory → g ≢ faults.NoMemory → (m ≡ n) × (f ≡ g)
+IsRefusedOneWay = (text : List ℕ) (m n : ℕ) (f g : ScriptFault) → IsRefused text m f → IsRefused text n g → f ≢ faults.NoMemory
+    → g ≢ faults.NoMemory → (m ≡ n) × (f ≡ g)
 
 -- memory aside, no script is refused
 abbrev pub IsReadOrRefused : Type 0
-IsReadOrRefused = (text : List ℕ) (script : List Line) (n : ℕ) (f : ScriptFault) → IsScriptOf text script → IsRefused text n f → f ≢ faults.NoMemory → ⊥
+IsReadOrRefused = (text : List ℕ) (script : List Line) (n : ℕ) (f : ScriptFault) → IsScriptOf text script → IsRefused text n f
+    → f ≢ faults.NoMemory → ⊥

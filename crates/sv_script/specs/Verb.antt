@@ -25,7 +25,8 @@ verb_text verbs.Fstat = codes "fstat"
 verb_text verbs.Sync = codes "sync"
 
 abbrev pub all_verbs : List Verb
-all_verbs = verbs.Open ∷ verbs.Creat ∷ verbs.Mkdir ∷ verbs.Read ∷ verbs.Write ∷ verbs.Fill ∷ verbs.Lseek ∷ verbs.Close ∷ verbs.Dup ∷ verbs.Link ∷ verbs.Unlink ∷ verbs.Rmdir ∷ verbs.Chdir ∷ verbs.Stat ∷ verbs.Fstat ∷ verbs.Sync ∷ []
+all_verbs = verbs.Open ∷ verbs.Creat ∷ verbs.Mkdir ∷ verbs.Read ∷ verbs.Write ∷ verbs.Fill ∷ verbs.Lseek ∷ verbs.Close ∷ verbs.Dup
+    ∷ verbs.Link ∷ verbs.Unlink ∷ verbs.Rmdir ∷ verbs.Chdir ∷ verbs.Stat ∷ verbs.Fstat ∷ verbs.Sync ∷ []
 
 -- the verb with this text, if there is one
 abbrev pub verb_of : List ℕ → Option Verb

@@ -1,5 +1,6 @@
 -- What a single word of a line can be.
-use Rattle.std.specs.Prelude.{◌==◌, nat_lt, nat_le, ◌&&◌, ◌||◌, if◌then◌else◌, ℕ, ℤ, pos, neg_ℤ, Bool, List, length, drop, slice_index, codes, nat_eq, Result, Ok, Err}
+use Rattle.std.specs.Prelude.{◌==◌, nat_lt, nat_le, ◌&&◌, ◌||◌, if◌then◌else◌, ℕ, ℤ, pos, neg_ℤ, Bool, List, length, drop, slice_index}
+use Rattle.std.specs.Prelude.{codes, nat_eq, Result, Ok, Err}
 use Rattle.std.specs.List.{list_all}
 use Rattle.std.specs.Cmp.Lexicographic.{pointwise}
 use Rattle.std.specs.Char.{digit_value}
@@ -36,7 +37,8 @@ octal_of word = if nat_lt 4 (length word) then Err faults.Number else value_of 8
 -- a number with a minus sign before it if wanted
 abbrev pub offset_of : List ℕ → Result ℤ ScriptFault
 offset_of word =
-    if slice_index word 0 == 45 then (number_of 4294967295 (drop 1 word) >>= λ n. Ok (neg_ℤ (pos n))) else (number_of 4294967295 word >>= λ n. Ok (pos n))
+    if slice_index word 0 == 45 then (number_of 4294967295 (drop 1 word) >>= λ n. Ok (neg_ℤ (pos n))) else
+    (number_of 4294967295 word >>= λ n. Ok (pos n))
 
 abbrev pub is_lower_hex : ℕ → Bool
 is_lower_hex c = (nat_le 48 c && nat_le c 57) || (nat_le 97 c && nat_le c 102)

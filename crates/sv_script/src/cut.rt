@@ -58,7 +58,8 @@ pub fn three(rest: &[u8]) -> Result<(&[u8], &[u8], &[u8]), ScriptFault>
 
 fn next_word(rest: &[u8]) -> Result<(&[u8], &[u8]), ScriptFault>
     requires { IsPart rest.now }
-    ensures { MatchResult result (λ cut. BeginsWith (words_after rest.now) cut.0.now cut.1.now) (λ e. (e ≡ ScriptFault.Count) × (words_after rest.now ≡ [])) }
+    ensures { MatchResult result (λ cut. BeginsWith (words_after rest.now) cut.0.now cut.1.now)
+        (λ e. (e ≡ ScriptFault.Count) × (words_after rest.now ≡ [])) }
 {
     if rest.is_empty() {
         return Err(ScriptFault::Count);

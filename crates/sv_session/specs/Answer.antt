@@ -5,7 +5,8 @@ use Rattle.sv_form.specs.Node.{Node}
 use Rattle.sv_check.specs.FilePages.{file_of, text_of}
 use Rattle.sv_check.specs.Sound.{Flaw, IsSound}
 use Rattle.sv_session.specs.declared.stop.Stop.{Stop}
-use Rattle.sv_session.specs.declared.stop.Stop.TheVariants.{Words, Refused, DeviceFault, FileFault, WriteFault, NoMemory, JournalRefused, NoSuchFile}
+use Rattle.sv_session.specs.declared.stop.Stop.TheVariants.{Words, Refused, DeviceFault, FileFault, WriteFault, NoMemory, JournalRefused}
+use Rattle.sv_session.specs.declared.stop.Stop.TheVariants.{NoSuchFile}
 use Rattle.sv_session.specs.Command.{Command, cat, check, mkfs, replay}
 use Rattle.sv_session.specs.Making.{LeavesUnmade, Makes, StopsMaking}
 use Rattle.sv_session.specs.Replay.{LeavesListing, Lists, RefusesLine, StopsReplay}
@@ -103,7 +104,8 @@ pub record ReplayAnswer (images texts : Option (List ℕ → Option (List ℕ)))
     (old new : Option (List ℕ)) (noted : List ℕ → Type 0) (status : ℕ) : Type 0 where
   pub done : status ≡ 0 → OnImage images name (Lists texts journal old new)
   pub stopped : status ≢ 0 → (stop : Stop) × (status ≡ status_of stop)
-      × StopsReplay (λ number place. OnImage images name (λ image. Flaw image number place)) (λ line. OnImage images name (RefusesLine texts journal line))
+      × StopsReplay (λ number place. OnImage images name (λ image. Flaw image number place))
+      (λ line. OnImage images name (RefusesLine texts journal line))
       device (file ⊎ source) write stop
       × LeavesListing (OnImage images name) texts journal old new stop × noted (line_of stop)
 
@@ -119,7 +121,8 @@ pub record MkfsAnswer (old new : Option (List ℕ → Option (List ℕ))) (name 
 -- ---- any command
 
 -- What a command answers, and which images it leaves. `mkfs` alone changes one, and writes nothing to the sink.
-abbrev pub Answers : (images left texts : Option (List ℕ → Option (List ℕ))) → (device file source write : Type 0) → (old new : Option (List ℕ)) → (List ℕ → Type 0) → ℕ → Command → Type 0
+abbrev pub Answers : (images left texts : Option (List ℕ → Option (List ℕ))) → (device file source write : Type 0)
+    → (old new : Option (List ℕ)) → (List ℕ → Type 0) → ℕ → Command → Type 0
 Answers images left texts device file source write old new noted status (cat image n) =
     (left ≡ images) × CatAnswer images image n device file write old new noted status
 Answers images left texts device file source write old new noted status (check image) =

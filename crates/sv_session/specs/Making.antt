@@ -3,7 +3,8 @@ use Rattle.std.specs.Prelude.{◌≡◌, ◌⊎◌, ◌*◌, ℕ, List, Some, re
 use Rattle.sv_dev.specs.Names.{Both, SameElsewhere, Under}
 use Rattle.sv_check.specs.MadeBlocks.{made_image}
 use Rattle.sv_session.specs.declared.stop.Stop.{Stop}
-use Rattle.sv_session.specs.declared.stop.Stop.TheVariants.{Words, Refused, DeviceFault, FileFault, WriteFault, NoMemory, JournalRefused, NoSuchFile}
+use Rattle.sv_session.specs.declared.stop.Stop.TheVariants.{Words, Refused, DeviceFault, FileFault, WriteFault, NoMemory, JournalRefused}
+use Rattle.sv_session.specs.declared.stop.Stop.TheVariants.{NoSuchFile}
 
 -- where the host tells its images, these bytes stand under that name now, and under each other name what stood there
 abbrev pub StandsAlone : Under → Under → List ℕ → List ℕ → Type 0

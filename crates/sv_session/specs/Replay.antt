@@ -12,7 +12,8 @@ use Rattle.sv_journal.specs.declared.journal_fault.JournalFault.TheVariants as f
 use Rattle.sv_journal.specs.Reading.{IsJournalOf, IsRefused}
 use Rattle.sv_journal.specs.Replay.{IsFirstIllegal}
 use Rattle.sv_session.specs.declared.stop.Stop.{Stop}
-use Rattle.sv_session.specs.declared.stop.Stop.TheVariants.{Words, Refused, DeviceFault, FileFault, WriteFault, NoMemory, JournalRefused, NoSuchFile}
+use Rattle.sv_session.specs.declared.stop.Stop.TheVariants.{Words, Refused, DeviceFault, FileFault, WriteFault, NoMemory, JournalRefused}
+use Rattle.sv_session.specs.declared.stop.Stop.TheVariants.{NoSuchFile}
 
 -- ---- the image
 
@@ -98,7 +99,8 @@ StopsReplay refused line_refused device file write NoSuchFile = ⊥
 
 -- what a stop leaves in the sink: nothing, or where the sink failed a front of the listing (`on` says that something holds
 -- of the image)
-abbrev pub LeavesListing : ((List ℕ → Type 0) → Type 0) → Option (List ℕ → Option (List ℕ)) → List ℕ → Option (List ℕ) → Option (List ℕ) → Stop → Type 0
+abbrev pub LeavesListing : ((List ℕ → Type 0) → Type 0) → Option (List ℕ → Option (List ℕ)) → List ℕ → Option (List ℕ) → Option (List ℕ)
+    → Stop → Type 0
 LeavesListing on texts name old new Words = new ≡ old
 LeavesListing on texts name old new (Refused number place) = new ≡ old
 LeavesListing on texts name old new DeviceFault = new ≡ old

@@ -15,7 +15,8 @@ use Rattle.sv_journal.specs.declared.gathering.GatherFault.TheVariants as gather
 use Rattle.sv_journal.specs.declared.journal_fault.JournalFault.{JournalFault}
 use Rattle.sv_journal.specs.declared.journal_fault.JournalFault.TheVariants as journal
 use Rattle.sv_session.specs.declared.stop.Stop.{Stop}
-use Rattle.sv_session.specs.declared.stop.Stop.TheVariants.{Words, Refused, DeviceFault, FileFault, WriteFault, NoMemory, JournalRefused, NoSuchFile}
+use Rattle.sv_session.specs.declared.stop.Stop.TheVariants.{Words, Refused, DeviceFault, FileFault, WriteFault, NoMemory, JournalRefused}
+use Rattle.sv_session.specs.declared.stop.Stop.TheVariants.{NoSuchFile}
 
 -- the exit status of the program
 abbrev pub status_of : Stop → ℕ

@@ -1,6 +1,7 @@
 -- Why a transfer from the disk to a sink ended early.
 use Rattle.sv_session.specs.declared.stop.Stop.{Stop}
-use Rattle.sv_session.specs.declared.stop.Stop.TheVariants.{Words, Refused, DeviceFault, FileFault, WriteFault, NoMemory, JournalRefused, NoSuchFile}
+use Rattle.sv_session.specs.declared.stop.Stop.TheVariants.{Words, Refused, DeviceFault, FileFault, WriteFault, NoMemory, JournalRefused}
+use Rattle.sv_session.specs.declared.stop.Stop.TheVariants.{NoSuchFile}
 
 -- the disk failed, or the sink did
 abbrev pub Transfers : (device write : Type 0) → Stop → Type 0

@@ -34,7 +34,8 @@ pub fn cat_image<R: Files<File = File>, H: Host, O: Sink>(
 ) -> u8
     ensures done { result ≡ 0 → OnImage (H.images host.old) image.now (Shows inode (O.written out.old) (O.written out.new)) }
     ensures stopped { result ≢ 0 → (stop : Stop) × (result ≡ status_of stop)
-        × HasReason (OnImage (H.images host.old) image.now) (OnImage (H.images host.old) image.now (LacksFile inode)) (Rose (H.disk_faults host.old) (H.disk_faults host.new))
+        × HasReason (OnImage (H.images host.old) image.now) (OnImage (H.images host.old) image.now (LacksFile inode))
+        (Rose (H.disk_faults host.old) (H.disk_faults host.new))
         (Rose (H.faults host.old) (H.faults host.new)) (Rose (O.faults out.old) (O.faults out.new)) stop
         × LeavesSink (OnImage (H.images host.old) image.now) inode (O.written out.old) (O.written out.new) stop
         × Noted (O.written note.old) (O.written note.new) (O.faults note.old) (O.faults note.new) (line_of stop) }
@@ -58,7 +59,8 @@ fn cat<R: Files<File = File>, H: Host, O: Sink>(
     out: &mut O,
 ) -> Result<(), Stop>
     ensures done { OnOk result (OnImage (H.images host.old) image.now (Shows inode (O.written out.old) (O.written out.new))) }
-    ensures reason { IfErr result (HasReason (OnImage (H.images host.old) image.now) (OnImage (H.images host.old) image.now (LacksFile inode)) (Rose (H.disk_faults host.old) (H.disk_faults host.new))
+    ensures reason { IfErr result (HasReason (OnImage (H.images host.old) image.now)
+        (OnImage (H.images host.old) image.now (LacksFile inode)) (Rose (H.disk_faults host.old) (H.disk_faults host.new))
         (Rose (H.faults host.old) (H.faults host.new)) (Rose (O.faults out.old) (O.faults out.new))) }
     ensures left { IfErr result (LeavesSink (OnImage (H.images host.old) image.now) inode (O.written out.old) (O.written out.new)) }
     ensures images { H.images host.new ≡ H.images host.old }
@@ -78,7 +80,8 @@ pub(crate) fn cat_disk<D: Disk, O: Sink>(
     out: &mut O,
 ) -> Result<(), Stop>
     ensures done { OnOk result (Shows inode (O.written out.old) (O.written out.new) (D.content disk.old)) }
-    ensures reason { IfErr result (HasReason (λ P. P (D.content disk.old)) (LacksFile inode (D.content disk.old)) (Rose (D.faults disk.old) (D.faults disk.new)) ⊥
+    ensures reason { IfErr result (HasReason (λ P. P (D.content disk.old)) (LacksFile inode (D.content disk.old))
+        (Rose (D.faults disk.old) (D.faults disk.new)) ⊥
         (Rose (O.faults out.old) (O.faults out.new))) }
     ensures left { IfErr result (LeavesSink (λ P. P (D.content disk.old)) inode (O.written out.old) (O.written out.new)) }
     ensures content { D.content disk.new ≡ D.content disk.old }
@@ -99,7 +102,8 @@ fn cat_sound<D: Disk, O: Sink>(
     requires sound { IsSound (D.content disk.old) }
     requires sizes { sizes.now ≡ geometry_of (D.content disk.old) }
     ensures done { OnOk result (Shows inode (O.written out.old) (O.written out.new) (D.content disk.old)) }
-    ensures reason { IfErr result (HasReason (λ P. P (D.content disk.old)) (LacksFile inode (D.content disk.old)) (Rose (D.faults disk.old) (D.faults disk.new)) ⊥
+    ensures reason { IfErr result (HasReason (λ P. P (D.content disk.old)) (LacksFile inode (D.content disk.old))
+        (Rose (D.faults disk.old) (D.faults disk.new)) ⊥
         (Rose (O.faults out.old) (O.faults out.new))) }
     ensures left { IfErr result (LeavesSink (λ P. P (D.content disk.old)) inode (O.written out.old) (O.written out.new)) }
     ensures content { D.content disk.new ≡ D.content disk.old }

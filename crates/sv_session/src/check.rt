@@ -51,7 +51,8 @@ fn check_and_tell<R: Files<File = File>, H: Host, O: Sink>(
     out: &mut O,
 ) -> Result<(), Stop>
     ensures done { OnOk result (OnImage (H.images host.old) image.now (IsCalledSound (O.written out.old) (O.written out.new))) }
-    ensures reason { IfErr result (HasReason (OnImage (H.images host.old) image.now) ⊥ (Rose (H.disk_faults host.old) (H.disk_faults host.new))
+    ensures reason { IfErr result (HasReason (OnImage (H.images host.old) image.now) ⊥
+        (Rose (H.disk_faults host.old) (H.disk_faults host.new))
         (Rose (H.faults host.old) (H.faults host.new)) (Rose (O.faults out.old) (O.faults out.new))) }
     ensures left { IfErr result (LeavesLine (OnImage (H.images host.old) image.now) (O.written out.old) (O.written out.new)) }
     ensures images { H.images host.new ≡ H.images host.old }

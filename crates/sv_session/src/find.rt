@@ -25,7 +25,8 @@ pub fn find_file<D: Disk>(
     requires block { length block.old ≡ sizes.now.block_size }
     ensures number { IfOk result (λ f. (f.0 ≡ inode) × IsNumber sizes.now inode) }
     ensures size { IfOk result (λ f. IsFileSize (D.content disk.old) inode (Some f.1)) }
-    ensures reason { IfErr result (HasReason (λ P. P (D.content disk.old)) (file_of (D.content disk.old) inode ≡ None) (Rose (D.faults disk.old) (D.faults disk.new)) ⊥ ⊥) }
+    ensures reason { IfErr result (HasReason (λ P. P (D.content disk.old)) (file_of (D.content disk.old) inode ≡ None)
+        (Rose (D.faults disk.old) (D.faults disk.new)) ⊥ ⊥) }
     ensures content { D.content disk.new ≡ D.content disk.old }
     ensures faults { D.faults disk.old ≤ D.faults disk.new }
 {

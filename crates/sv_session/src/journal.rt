@@ -48,7 +48,8 @@ fn read_journal<R: Files<File = File>, H: Host>(
     name: &str,
 ) -> Result<Journal, Stop>
     ensures read { IfOk result (λ j. OnText (H.texts host.old) name.now (λ text. IsJournalOf text j.processes j.table j.entries)) }
-    ensures reason { IfErr result (StopsReplay (λ number place. ⊥) (λ line. OnText (H.texts host.old) name.now (λ text. IsRefused text (Line line))) ⊥
+    ensures reason { IfErr result (StopsReplay (λ number place. ⊥) (λ line. OnText (H.texts host.old) name.now
+        (λ text. IsRefused text (Line line))) ⊥
         (Rose (H.faults host.old) (H.faults host.new) ⊎ Rose (H.source_faults host.old) (H.source_faults host.new)) ⊥) }
     ensures images { H.images host.new ≡ H.images host.old }
     ensures texts { H.texts host.new ≡ H.texts host.old }
@@ -87,8 +88,10 @@ fn replayed_listing(alloc: Global, tree: Fs, journal: &Journal) -> Result<Vec<u8
     requires some { 1 ≤ journal.now.table }
     requires few { length journal.now.entries ≤ 536870912 }
     ensures legal { IfOk result (λ text. IsLegal journal.now.entries (begun tree journal.now.processes journal.now.table)) }
-    ensures listing { IfOk result (λ text. text.items ≡ listing_text (after journal.now.entries (begun tree journal.now.processes journal.now.table))) }
-    ensures reason { IfErr result (StopsReplay (λ number place. ⊥) (IsIllegalAt journal.now.entries (begun tree journal.now.processes journal.now.table)) ⊥ ⊥ ⊥) }
+    ensures listing { IfOk result (λ text. text.items ≡ listing_text (after journal.now.entries
+        (begun tree journal.now.processes journal.now.table))) }
+    ensures reason { IfErr result (StopsReplay (λ number place. ⊥) (IsIllegalAt journal.now.entries
+        (begun tree journal.now.processes journal.now.table)) ⊥ ⊥ ⊥) }
 {
     let mut fs = tree;
     begin(alloc, &mut fs, journal.processes, journal.table)?;

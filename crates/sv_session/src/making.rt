@@ -60,7 +60,8 @@ fn make_image<R: Files<File = File>, H: Host>(
 ) -> Result<(), Stop>
     requires { CanBeMade blocks inodes }
     ensures done { OnOk result (Makes (H.images host.old) (H.images host.new) image.now blocks inodes) }
-    ensures reason { IfErr result (StopsMaking (Rose (H.disk_faults host.old) (H.disk_faults host.new)) (Rose (H.faults host.old) (H.faults host.new))) }
+    ensures reason { IfErr result (StopsMaking (Rose (H.disk_faults host.old) (H.disk_faults host.new))
+        (Rose (H.faults host.old) (H.faults host.new))) }
     ensures left { IfErr result (LeavesUnmade (H.images host.old) (H.images host.new) image.now blocks inodes) }
     ensures texts { H.texts host.new ≡ H.texts host.old }
 {

@@ -99,7 +99,8 @@ fn add_page<D: Disk>(
     requires length { length (D.content disk.old) ≡ sizes.now.blocks * sizes.now.block_size }
     requires room { filled + sizes.now.block_size ≤ length piece.old }
     requires address { IsHoleOrData sizes.now address }
-    ensures bytes { OnOk result (take (filled + sizes.now.block_size) piece.new ≡ take filled piece.old ++ page_bytes sizes.now (D.content disk.old) address) }
+    ensures bytes { OnOk result (take (filled + sizes.now.block_size) piece.new
+        ≡ take filled piece.old ++ page_bytes sizes.now (D.content disk.old) address) }
     ensures reason { IfErr result (Transfers (Rose (D.faults disk.old) (D.faults disk.new)) ⊥) }
     ensures content { D.content disk.new ≡ D.content disk.old }
     ensures disk_faults { D.faults disk.old ≤ D.faults disk.new }

@@ -30,11 +30,14 @@ pub fn replay_image<R: Files<File = File>, H: Host, O: Sink>(
     out: &mut O,
     note: &mut O,
 ) -> u8
-    ensures done { result ≡ 0 → OnImage (H.images host.old) image.now (Lists (H.texts host.old) journal.now (O.written out.old) (O.written out.new)) }
+    ensures done { result ≡ 0 → OnImage (H.images host.old) image.now (Lists (H.texts host.old) journal.now (O.written out.old)
+        (O.written out.new)) }
     ensures stopped { result ≢ 0 → (stop : Stop) × (result ≡ status_of stop)
         × StopsReplay (λ number place. OnImage (H.images host.old) image.now (λ content. Flaw content number place))
-        (λ line. OnImage (H.images host.old) image.now (RefusesLine (H.texts host.old) journal.now line)) (Rose (H.disk_faults host.old) (H.disk_faults host.new))
-        (Rose (H.faults host.old) (H.faults host.new) ⊎ Rose (H.source_faults host.old) (H.source_faults host.new)) (Rose (O.faults out.old) (O.faults out.new)) stop
+        (λ line. OnImage (H.images host.old) image.now (RefusesLine (H.texts host.old) journal.now line))
+        (Rose (H.disk_faults host.old) (H.disk_faults host.new))
+        (Rose (H.faults host.old) (H.faults host.new) ⊎ Rose (H.source_faults host.old) (H.source_faults host.new))
+        (Rose (O.faults out.old) (O.faults out.new)) stop
         × LeavesListing (OnImage (H.images host.old) image.now) (H.texts host.old) journal.now (O.written out.old) (O.written out.new) stop
         × Noted (O.written note.old) (O.written note.new) (O.faults note.old) (O.faults note.new) (line_of stop) }
     ensures quiet { result ≡ 0 → O.written note.new ≡ O.written note.old }
@@ -56,11 +59,16 @@ fn write_replayed<R: Files<File = File>, H: Host, O: Sink>(
     journal: &str,
     out: &mut O,
 ) -> Result<(), Stop>
-    ensures done { OnOk result (OnImage (H.images host.old) image.now (Lists (H.texts host.old) journal.now (O.written out.old) (O.written out.new))) }
-    ensures reason { IfErr result (StopsReplay (λ number place. OnImage (H.images host.old) image.now (λ content. Flaw content number place))
-        (λ line. OnImage (H.images host.old) image.now (RefusesLine (H.texts host.old) journal.now line)) (Rose (H.disk_faults host.old) (H.disk_faults host.new))
-        (Rose (H.faults host.old) (H.faults host.new) ⊎ Rose (H.source_faults host.old) (H.source_faults host.new)) (Rose (O.faults out.old) (O.faults out.new))) }
-    ensures left { IfErr result (LeavesListing (OnImage (H.images host.old) image.now) (H.texts host.old) journal.now (O.written out.old) (O.written out.new)) }
+    ensures done { OnOk result (OnImage (H.images host.old) image.now (Lists (H.texts host.old) journal.now (O.written out.old)
+        (O.written out.new))) }
+    ensures reason { IfErr result (StopsReplay (λ number place. OnImage (H.images host.old) image.now
+        (λ content. Flaw content number place))
+        (λ line. OnImage (H.images host.old) image.now (RefusesLine (H.texts host.old) journal.now line))
+        (Rose (H.disk_faults host.old) (H.disk_faults host.new))
+        (Rose (H.faults host.old) (H.faults host.new) ⊎ Rose (H.source_faults host.old) (H.source_faults host.new))
+        (Rose (O.faults out.old) (O.faults out.new))) }
+    ensures left { IfErr result (LeavesListing (OnImage (H.images host.old) image.now) (H.texts host.old) journal.now (O.written out.old)
+        (O.written out.new)) }
     ensures images { H.images host.new ≡ H.images host.old }
     ensures texts { H.texts host.new ≡ H.texts host.old }
 {
@@ -79,9 +87,12 @@ fn replayed<R: Files<File = File>, H: Host>(
     image: &str,
     journal: &str,
 ) -> Result<Vec<u8>, Stop>
-    ensures listing { IfOk result (λ text. OnImage (H.images host.old) image.now (Replays (H.texts host.old) journal.now (λ listing. text.items ≡ listing))) }
-    ensures reason { IfErr result (StopsReplay (λ number place. OnImage (H.images host.old) image.now (λ content. Flaw content number place))
-        (λ line. OnImage (H.images host.old) image.now (RefusesLine (H.texts host.old) journal.now line)) (Rose (H.disk_faults host.old) (H.disk_faults host.new))
+    ensures listing { IfOk result (λ text. OnImage (H.images host.old) image.now
+        (Replays (H.texts host.old) journal.now (λ listing. text.items ≡ listing))) }
+    ensures reason { IfErr result (StopsReplay (λ number place. OnImage (H.images host.old) image.now
+        (λ content. Flaw content number place))
+        (λ line. OnImage (H.images host.old) image.now (RefusesLine (H.texts host.old) journal.now line))
+        (Rose (H.disk_faults host.old) (H.disk_faults host.new))
         (Rose (H.faults host.old) (H.faults host.new) ⊎ Rose (H.source_faults host.old) (H.source_faults host.new)) ⊥) }
     ensures images { H.images host.new ≡ H.images host.old }
     ensures texts { H.texts host.new ≡ H.texts host.old }

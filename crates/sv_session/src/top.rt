@@ -35,8 +35,10 @@ pub fn svfs<R: Files<File = File> + Threads + Wait, H: Host, W: Watch, O: Sink>(
         × (host.new ≡ host.old) × (out.new ≡ out.old)
         × Noted (O.written note.old) (O.written note.new) (O.faults note.old) (O.faults note.new) (line_of Words) }
     ensures answer { result ≢ 1 → (command : Command) × Asks (map string_bytes words.now) command
-        × Answers (H.images host.old) (H.images host.new) (H.texts host.old) (Rose (H.disk_faults host.old) (H.disk_faults host.new)) (Rose (H.faults host.old) (H.faults host.new))
-        (Rose (H.source_faults host.old) (H.source_faults host.new)) (Rose (O.faults out.old) (O.faults out.new)) (O.written out.old) (O.written out.new)
+        × Answers (H.images host.old) (H.images host.new) (H.texts host.old) (Rose (H.disk_faults host.old) (H.disk_faults host.new))
+        (Rose (H.faults host.old) (H.faults host.new))
+        (Rose (H.source_faults host.old) (H.source_faults host.new)) (Rose (O.faults out.old) (O.faults out.new)) (O.written out.old)
+        (O.written out.new)
         (Noted (O.written note.old) (O.written note.new) (O.faults note.old) (O.faults note.new)) result command }
     ensures quiet { result ≡ 0 → O.written note.new ≡ O.written note.old }
     ensures texts { H.texts host.new ≡ H.texts host.old }

@@ -24,7 +24,8 @@ pub fn load_image<R: Files<File = File>, H: Host>(
     ensures tree { IfOk result (λ fs. OnImage (H.images host.old) image.now (HasTree fs)) }
     ensures whole { IfOk result (λ fs. IsWhole fs) }
     ensures unused { IfOk result (λ fs. IsUnused fs) }
-    ensures reason { IfErr result (StopsReplay (λ number place. OnImage (H.images host.old) image.now (λ content. Flaw content number place)) (λ line. ⊥)
+    ensures reason { IfErr result (StopsReplay (λ number place. OnImage (H.images host.old) image.now
+        (λ content. Flaw content number place)) (λ line. ⊥)
         (Rose (H.disk_faults host.old) (H.disk_faults host.new)) (Rose (H.faults host.old) (H.faults host.new)) ⊥) }
     ensures images { H.images host.new ≡ H.images host.old }
     ensures texts { H.texts host.new ≡ H.texts host.old }

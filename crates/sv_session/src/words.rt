@@ -1,5 +1,6 @@
 // The words of the command line.
-ghost use Rattle.std.specs.Prelude.{◌≡◌, ◌≢◌, ◌<◌, ◌≤◌, ◌^◌, ◌↔◌, ℕ, List, map, length, slice_index, string_bytes, decimal, IsTrue, IfSome, IfNone};
+ghost use Rattle.std.specs.Prelude.{◌≡◌, ◌≢◌, ◌<◌, ◌≤◌, ◌^◌, ◌↔◌, ℕ, List, map, length, slice_index, string_bytes, decimal, IsTrue, IfSome};
+ghost use Rattle.std.specs.Prelude.{IfNone};
 ghost use Rattle.sv_check.specs.Mkfs.{CanBeMade};
 ghost use Rattle.sv_session.specs.Command.{Command, Asks, cat, check, mkfs, replay};
 ghost use Rattle.sv_session.specs.Words.{asked};
@@ -46,7 +47,8 @@ pub fn read_words(words: &[String]) -> Option<Request<'_>>
 fn read_longer(words: &[String]) -> Option<Request<'_>>
     ensures some { IfSome result (λ request. Asks (map string_bytes words.now) (asked request)) }
     ensures no_cat { IfNone result ((image : List ℕ) (inode : ℕ) → Asks (map string_bytes words.now) (cat image inode) → ⊥) }
-    ensures no_mkfs { IfNone result ((image : List ℕ) (blocks inodes : ℕ) → Asks (map string_bytes words.now) (mkfs image blocks inodes) → ⊥) }
+    ensures no_mkfs { IfNone result ((image : List ℕ) (blocks inodes : ℕ) → Asks (map string_bytes words.now) (mkfs image blocks inodes)
+        → ⊥) }
     ensures no_replay { IfNone result ((image journal : List ℕ) → Asks (map string_bytes words.now) (replay image journal) → ⊥) }
 {
     match read_mkfs(words) {

@@ -1,5 +1,6 @@
 -- What a stake holds and what it has lent. A line is 64 bytes of a block; lines are counted from 0.
-use Rattle.std.specs.Prelude.{◌≡◌, ◌<◌, ◌+◌, ◌*◌, ◌==◌, ◌&&◌, ℕ, Bool, List, Option, Some, None, IsSome, IfSome, is_some, option_map, if◌then◌else◌, slice_range, length, [], nat_le, nat_lt}
+use Rattle.std.specs.Prelude.{◌≡◌, ◌<◌, ◌+◌, ◌*◌, ◌==◌, ◌&&◌, ℕ, Bool, List, Option, Some, None, IsSome, IfSome, is_some, option_map}
+use Rattle.std.specs.Prelude.{if◌then◌else◌, slice_range, length, [], nat_le, nat_lt}
 use Rattle.std.specs.List.{list_any, slice_index_or}
 use Rattle.sv_form.specs.declared.geometry.Geometry.{Geometry}
 use Rattle.sv_form.specs.declared.owners.LineRange.{LineRange}
@@ -76,4 +77,5 @@ pub record HoldsBlock (o : Origin) (h : Held) (b : ℕ) : Type 0 where
 
 -- all lines of these blocks
 unfoldable pub of_content : Geometry → List (List ℕ) → Held
-of_content g content = λ b l. if nat_lt b (length content) && nat_lt (l * 64) g.block_size then Some (line_of (slice_index_or content b []) l) else None
+of_content g content = λ b l. if nat_lt b (length content) && nat_lt (l * 64) g.block_size then Some
+    (line_of (slice_index_or content b []) l) else None

@@ -1,5 +1,6 @@
 -- Lines of one block, held in memory.
-use Rattle.std.specs.Prelude.{◌≡◌, ◌<◌, ◌≤◌, ◌*◌, ◌==◌, ◌&&◌, ℕ, suc, Bool, true, false, List, [], ◌∷◌, length, map, Option, Some, None, is_none, if◌then◌else◌, count_by, replicate, ◌/◌, ◌+◌, ◌++◌, not, nat_lt, nat_le, slice_range, take, drop}
+use Rattle.std.specs.Prelude.{◌≡◌, ◌<◌, ◌≤◌, ◌*◌, ◌==◌, ◌&&◌, ℕ, suc, Bool, true, false, List, [], ◌∷◌, length, map, Option, Some, None}
+use Rattle.std.specs.Prelude.{is_none, if◌then◌else◌, count_by, replicate, ◌/◌, ◌+◌, ◌++◌, not, nat_lt, nat_le, slice_range, take, drop}
 use Rattle.std.specs.Option.{ForSome}
 use Rattle.std.specs.List.{All, list_all, list_any, slice_index_or}
 use Rattle.sv_form.specs.declared.geometry.Geometry.{Geometry}
@@ -91,7 +92,8 @@ left f (e ∷ es) = if holds_any (f e) then f e ∷ left f es else left f es
 
 -- all of so many lines from one on are held, and there are some
 unfoldable pub has_all : List Bool → ℕ → ℕ → Bool
-has_all lines first count = nat_lt first (first + count) && (nat_le (first + count) (length lines) && list_all (λ x. x) (slice_range lines first (first + count)))
+has_all lines first count = nat_lt first (first + count) && (nat_le (first + count) (length lines)
+    && list_all (λ x. x) (slice_range lines first (first + count)))
 
 -- no line is held before the first of so many lines, or after the last
 unfoldable pub has_none_else : List Bool → ℕ → ℕ → Bool

@@ -74,7 +74,8 @@ pub fn set_and_read<R: Wait, S: Stake>(
     requires line { IsSome (S.held stake.old block (place / 64)) }
     ensures value { IfOk result (λ got. got ≡ value) }
     ensures held { OnOk result (S.held stake.new ≡ with_byte block place value (S.held stake.old)) }
-    ensures kept { OnErr result ((S.held stake.new ≡ S.held stake.old) ⊎ (S.held stake.new ≡ with_byte block place value (S.held stake.old))) }
+    ensures kept { OnErr result ((S.held stake.new ≡ S.held stake.old) ⊎ (S.held stake.new
+        ≡ with_byte block place value (S.held stake.old))) }
     ensures lends { S.lent stake.new ≡ S.lent stake.old }
     ensures forced { S.forced stake.new ≡ S.forced stake.old }
     ensures origin { S.origin stake.new ≡ S.origin stake.old }
@@ -109,7 +110,8 @@ fn set_both<R: Wait, S: Stake>(
     ensures origin { S.origin one.new ≡ S.origin one.old }
     ensures other_origin { S.origin two.new ≡ S.origin two.old }
     ensures count { S.faults one.old ≤ S.faults one.new }
-    ensures cause { IfErr result (λ refusal. (refusal ≡ Fault) × (Rose (S.faults one.old) (S.faults one.new) ⊎ Rose (S.faults two.old) (S.faults two.new))) }
+    ensures cause { IfErr result (λ refusal. (refusal ≡ Fault) × (Rose (S.faults one.old) (S.faults one.new)
+        ⊎ Rose (S.faults two.old) (S.faults two.new))) }
 {
     let _sizes = one.geometry();
     let _other_sizes = two.geometry();
@@ -193,7 +195,8 @@ pub fn make_and_write<R: Wait, S: Stake>(
     requires next { next < (S.origin stake.old).sizes.blocks }
     requires lent { S.lent stake.old ≡ nothing_lent }
     ensures zeros { OnOk result (S.held stake.new ≡ put block (replicate (S.origin stake.old).sizes.block_size 0) (S.held stake.old)) }
-    ensures kept { OnErr result ((S.held stake.new ≡ S.held stake.old) ⊎ (S.held stake.new ≡ put block (replicate (S.origin stake.old).sizes.block_size 0) (S.held stake.old))) }
+    ensures kept { OnErr result ((S.held stake.new ≡ S.held stake.old) ⊎ (S.held stake.new
+        ≡ put block (replicate (S.origin stake.old).sizes.block_size 0) (S.held stake.old))) }
     ensures lends { S.lent stake.new ≡ nothing_lent }
     ensures forced { OnOk result (S.forced stake.new ≡ true) }
     ensures origin { S.origin stake.new ≡ S.origin stake.old }

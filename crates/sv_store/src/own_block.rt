@@ -1,12 +1,15 @@
 // Lines of blocks in a linked list: each operation goes over the list once, and takes no memory.
-ghost use Rattle.std.specs.Prelude.{◌≡◌, ◌≢◌, ◌<◌, ◌≤◌, ◌+◌, ◌*◌, ◌++◌, ◌==◌, ℕ, List, Some, None, true, IsSome, length, map, take, drop, slice_set, slice_index_or, if◌then◌else◌, IfSome, IsTrue, false, unwrap_or, replicate, IfOk, OnOk, not, ◌∷◌, []};
+ghost use Rattle.std.specs.Prelude.{◌≡◌, ◌≢◌, ◌<◌, ◌≤◌, ◌+◌, ◌*◌, ◌++◌, ◌==◌, ℕ, List, Some, None, true, IsSome, length, map, take, drop};
+ghost use Rattle.std.specs.Prelude.{slice_set, slice_index_or, if◌then◌else◌, IfSome, IsTrue, false, unwrap_or, replicate, IfOk, OnOk, not};
+ghost use Rattle.std.specs.Prelude.{◌∷◌, []};
 ghost use Rattle.std.specs.List.{position, list_all, list_any, All};
 ghost use Rattle.std.specs.LinkedList.{linked_list_len};
 ghost use Rattle.sv_form.specs.Geometry.{IsGeometry};
 ghost use Rattle.sv_store.specs.Calls.{CanGet};
 ghost use Rattle.sv_store.specs.Held.{line_of, in_ranges, covers, put, with, without, nothing_lent, Apart, Both};
 ghost use Rattle.sv_store.specs.Content.{block_bytes};
-ghost use Rattle.sv_store.specs.OwnBlock.{nowhere, is_out, filled, line_in, held_of, lent_of, IsSound, masked_lines, masked, copied, holds_any, left, whole_block, whole_blocks, has_all, has_none_else, holds_range};
+ghost use Rattle.sv_store.specs.OwnBlock.{nowhere, is_out, filled, line_in, held_of, lent_of, IsSound, masked_lines, masked, copied};
+ghost use Rattle.sv_store.specs.OwnBlock.{holds_any, left, whole_block, whole_blocks, has_all, has_none_else, holds_range};
 
 use std::alloc::{AllocError, Global};
 use std::collections::LinkedList;
@@ -28,7 +31,13 @@ impl Model for Own {
 
     ghost Value = { OwnBlock };
 
-    ghost view = { λ own. record { block = own.block; lines = own.lines.items; kept = own.kept.items; spare = option_map (λ bytes. bytes.items) own.spare } };
+    ghost view = { λ own. record {
+      block = own.block;
+      lines = own.lines.items;
+      kept = own.kept.items;
+      spare = option_map
+          (λ bytes. bytes.items) own.spare;
+    } };
 }
 
 impl Own {
@@ -95,7 +104,8 @@ impl Own {
         requires lines { length self.now.lines * 64 ≡ length (block_bytes content.old self.now.block) }
         ensures count { length content.new ≡ length content.old }
         ensures sizes { (b : ℕ) → length (block_bytes content.new b) ≡ length (block_bytes content.old b) }
-        ensures lines { (b l : ℕ) → line_of (block_bytes content.new b) l ≡ unwrap_or (line_in self.now b l) (line_of (block_bytes content.old b) l) }
+        ensures lines { (b l : ℕ) → line_of (block_bytes content.new b) l
+            ≡ unwrap_or (line_in self.now b l) (line_of (block_bytes content.old b) l) }
     {
         let at = self.block as usize;
         self.copy_lines(self.block, content[at].as_mut_slice());
@@ -110,7 +120,13 @@ impl Own {
 
     // The chosen lines, with vectors of their own.
     pub(crate) fn copy_of(&self, alloc: Global, chosen: Vec<bool>) -> Result<Own, AllocError>
-        ensures { IfOk result (λ own. own ≡ record { block = self.now.block; lines = chosen.items; kept = self.now.kept; spare = Some self.now.kept }) }
+        ensures { IfOk result (λ own. own ≡ record {
+          block = self.now.block;
+          lines = chosen.items;
+          kept = self.now.kept;
+          spare = Some
+              self.now.kept;
+        }) }
     {
         let kept = Vec::from_slice(alloc, self.kept.as_slice())?;
         let spare = Vec::from_slice(alloc, self.kept.as_slice())?;

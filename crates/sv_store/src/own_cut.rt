@@ -1,6 +1,7 @@
 // Lines of an own stake are cut off, one range after another. A range that stands in one entry costs the way to it: entries
 // are met in the order of the list, and one whose lines all go is moved over as it is.
-ghost use Rattle.std.specs.Prelude.{◌≡◌, ◌<◌, ◌≤◌, ◌++◌, ◌∷◌, ℕ, List, [], Some, None, true, not, length, take, drop, slice_index_or, IfOk, OnOk, OnErr};
+ghost use Rattle.std.specs.Prelude.{◌≡◌, ◌<◌, ◌≤◌, ◌++◌, ◌∷◌, ℕ, List, [], Some, None, true, not, length, take, drop, slice_index_or, IfOk};
+ghost use Rattle.std.specs.Prelude.{OnOk, OnErr};
 ghost use Rattle.std.specs.List.{position};
 ghost use Rattle.std.specs.LinkedList.{linked_list_len};
 ghost use Rattle.sv_form.specs.Geometry.{IsGeometry};
@@ -90,8 +91,10 @@ fn cut_front(
     requires few { linked_list_len taken.old ≤ 4294967296 }
     requires lines { length (slice_index_or blocks.old 0 nowhere).lines ≤ 65536 }
     requires holds { holds_range range (slice_index_or blocks.old 0 nowhere) ≡ true }
-    requires home { (bytes : List ℕ) × (((slice_index_or blocks.old 0 nowhere).spare ≡ Some bytes) × (length bytes ≡ length (slice_index_or blocks.old 0 nowhere).kept)) }
-    ensures blocks { OnOk result (blocks.new ≡ left (masked (λ b l. not (in_ranges (range ∷ []) b l))) (take 1 blocks.old) ++ drop 1 blocks.old) }
+    requires home { (bytes : List ℕ) × (((slice_index_or blocks.old 0 nowhere).spare ≡ Some bytes)
+        × (length bytes ≡ length (slice_index_or blocks.old 0 nowhere).kept)) }
+    ensures blocks { OnOk result (blocks.new ≡ left (masked (λ b l. not (in_ranges (range ∷ []) b l))) (take 1 blocks.old) ++ drop 1
+        blocks.old) }
     ensures taken { OnOk result (AddsCopy (range ∷ []) (slice_index_or blocks.old 0 nowhere) taken.old taken.new) }
     ensures err { OnErr result (blocks.new ≡ blocks.old) }
     ensures none { OnErr result (taken.new ≡ taken.old) }
@@ -122,8 +125,10 @@ fn cut_at(
     requires few { linked_list_len taken.old ≤ 4294967296 }
     requires lines { length (slice_index_or blocks.old at nowhere).lines ≤ 65536 }
     requires holds { holds_range range (slice_index_or blocks.old at nowhere) ≡ true }
-    requires home { (bytes : List ℕ) × (((slice_index_or blocks.old at nowhere).spare ≡ Some bytes) × (length bytes ≡ length (slice_index_or blocks.old at nowhere).kept)) }
-    ensures blocks { OnOk result (blocks.new ≡ take at blocks.old ++ (left (masked (λ b l. not (in_ranges (range ∷ []) b l))) (take 1 (drop at blocks.old)) ++ drop 1 (drop at blocks.old))) }
+    requires home { (bytes : List ℕ) × (((slice_index_or blocks.old at nowhere).spare ≡ Some bytes)
+        × (length bytes ≡ length (slice_index_or blocks.old at nowhere).kept)) }
+    ensures blocks { OnOk result (blocks.new ≡ take at blocks.old ++ (left (masked (λ b l. not (in_ranges (range ∷ []) b l)))
+        (take 1 (drop at blocks.old)) ++ drop 1 (drop at blocks.old))) }
     ensures taken { OnOk result (AddsCopy (range ∷ []) (slice_index_or blocks.old at nowhere) taken.old taken.new) }
     ensures err { OnErr result (blocks.new ≡ blocks.old) }
     ensures none { OnErr result (taken.new ≡ taken.old) }

@@ -143,11 +143,14 @@ impl OwnStake {
 
     /// The blocks with their bytes, in order. Without memory the stake comes back as it was.
     pub fn into_content(self, alloc: Global) -> Result<Vec<Vec<u8>>, (OwnStake, NoMemory)>
-        requires lines { (b : ℕ) → b < (⟦<OwnStake as Stake>⟧.origin self).sizes.blocks → HoldsBlock (⟦<OwnStake as Stake>⟧.origin self) (⟦<OwnStake as Stake>⟧.held self) b }
+        requires lines { (b : ℕ) → b < (⟦<OwnStake as Stake>⟧.origin self).sizes.blocks
+            → HoldsBlock (⟦<OwnStake as Stake>⟧.origin self) (⟦<OwnStake as Stake>⟧.held self) b }
         requires lent { ⟦<OwnStake as Stake>⟧.lent self ≡ nothing_lent }
         ensures blocks { IfOk result (λ content. length content.items ≡ (⟦<OwnStake as Stake>⟧.origin self).sizes.blocks) }
-        ensures bytes { IfOk result (λ content. All (λ bytes. length bytes.items ≡ (⟦<OwnStake as Stake>⟧.origin self).sizes.block_size) content.items) }
-        ensures held { IfOk result (λ content. of_content (⟦<OwnStake as Stake>⟧.origin self).sizes (map (λ bytes. bytes.items) content.items) ≡ ⟦<OwnStake as Stake>⟧.held self) }
+        ensures bytes { IfOk result (λ content. All (λ bytes. length bytes.items ≡ (⟦<OwnStake as Stake>⟧.origin self).sizes.block_size)
+            content.items) }
+        ensures held { IfOk result (λ content. of_content (⟦<OwnStake as Stake>⟧.origin self).sizes
+            (map (λ bytes. bytes.items) content.items) ≡ ⟦<OwnStake as Stake>⟧.held self) }
         ensures back { IfErr result (λ refused. refused.0 ≡ self) }
         ensures quiet { (⟦<OwnStake as Stake>⟧.origin self).id ≡ [] → ⟦<OwnStake as Stake>⟧.faults self ≡ 0 }
     {
@@ -217,7 +220,8 @@ impl Stake for OwnStake {
     }
 
     fn fresh<R: Wait>(&mut self, _rt: &R, b: u32) -> Result<Buf, Refusal>
-        requires { CanFresh (⟦<OwnStake as Stake>⟧.origin self.old) (⟦<OwnStake as Stake>⟧.held self.old) (⟦<OwnStake as Stake>⟧.lent self.old) b }
+        requires { CanFresh (⟦<OwnStake as Stake>⟧.origin self.old) (⟦<OwnStake as Stake>⟧.held self.old)
+            (⟦<OwnStake as Stake>⟧.lent self.old) b }
         ensures ok { IfOk result (GetsZeros (⟦<OwnStake as Stake>⟧.origin self.old) b) }
         ensures lends { IfOk result (λ buf. ⟦<OwnStake as Stake>⟧.lent self.new ≡ with b buf.bytes (⟦<OwnStake as Stake>⟧.lent self.old)) }
         ensures puts { IfOk result (λ buf. ⟦<OwnStake as Stake>⟧.held self.new ≡ put b buf.bytes (⟦<OwnStake as Stake>⟧.held self.old)) }
@@ -275,7 +279,8 @@ impl Stake for OwnStake {
 
     fn part(&mut self, alloc: Global, lines: &[LineRange]) -> Result<Self, Refusal>
         requires { CanPart (⟦<OwnStake as Stake>⟧.held self.old) (⟦<OwnStake as Stake>⟧.lent self.old) lines.now }
-        ensures ok { IfOk result (λ new. Parts (⟦<OwnStake as Stake>⟧.held self.old) lines.now (⟦<OwnStake as Stake>⟧.held self.new) (⟦<OwnStake as Stake>⟧.held new)) }
+        ensures ok { IfOk result (λ new. Parts (⟦<OwnStake as Stake>⟧.held self.old) lines.now (⟦<OwnStake as Stake>⟧.held self.new)
+            (⟦<OwnStake as Stake>⟧.held new)) }
         ensures new_lent { IfOk result (λ new. ⟦<OwnStake as Stake>⟧.lent new ≡ nothing_lent) }
         ensures new_faults { IfOk result (λ new. ⟦<OwnStake as Stake>⟧.faults new ≡ 0) }
         ensures new_forced { IfOk result (λ new. ⟦<OwnStake as Stake>⟧.forced new ≡ false) }
@@ -287,7 +292,8 @@ impl Stake for OwnStake {
         ensures forced { ⟦<OwnStake as Stake>⟧.forced self.new ≡ ⟦<OwnStake as Stake>⟧.forced self.old }
         ensures origin { ⟦<OwnStake as Stake>⟧.origin self.new ≡ ⟦<OwnStake as Stake>⟧.origin self.old }
         ensures numbers { ⟦<OwnStake as Numbered>⟧.numbers self.new ≡ ⟦<OwnStake as Numbered>⟧.numbers self.old }
-        ensures new_numbers { IfOk result (λ new. ⟦<OwnStake as Numbered>⟧.numbers new ≡ record { fails = (⟦<OwnStake as Numbered>⟧.numbers self.old).fails; calls = 0; faults = 0 }) }
+        ensures new_numbers { IfOk result (λ new. ⟦<OwnStake as Numbered>⟧.numbers new
+            ≡ record { fails = (⟦<OwnStake as Numbered>⟧.numbers self.old).fails; calls = 0; faults = 0 }) }
     {
         let tally = self.tally.anew(alloc)?;
         let blocks = cut_off(alloc, &mut self.blocks, self.sizes, lines)?;
@@ -300,14 +306,20 @@ impl Stake for OwnStake {
     }
 
     fn merge(&mut self, other: Self)
-        requires lines { CanMerge (⟦<OwnStake as Stake>⟧.held self.old) (⟦<OwnStake as Stake>⟧.held other) (⟦<OwnStake as Stake>⟧.lent other) }
+        requires lines { CanMerge (⟦<OwnStake as Stake>⟧.held self.old) (⟦<OwnStake as Stake>⟧.held other)
+            (⟦<OwnStake as Stake>⟧.lent other) }
         requires origin { ⟦<OwnStake as Stake>⟧.origin other ≡ ⟦<OwnStake as Stake>⟧.origin self.old }
         ensures held { ⟦<OwnStake as Stake>⟧.held self.new ≡ Both (⟦<OwnStake as Stake>⟧.held self.old) (⟦<OwnStake as Stake>⟧.held other) }
         ensures lends { ⟦<OwnStake as Stake>⟧.lent self.new ≡ ⟦<OwnStake as Stake>⟧.lent self.old }
-        ensures faults { ⟦<OwnStake as Stake>⟧.faults self.new ≡ counted (⟦<OwnStake as Stake>⟧.faults self.old) (⟦<OwnStake as Stake>⟧.faults other) }
-        ensures forced { ⟦<OwnStake as Stake>⟧.forced self.new ≡ (⟦<OwnStake as Stake>⟧.forced self.old || ⟦<OwnStake as Stake>⟧.forced other) }
+        ensures faults { ⟦<OwnStake as Stake>⟧.faults self.new ≡ counted (⟦<OwnStake as Stake>⟧.faults self.old)
+            (⟦<OwnStake as Stake>⟧.faults other) }
+        ensures forced { ⟦<OwnStake as Stake>⟧.forced self.new ≡ (⟦<OwnStake as Stake>⟧.forced self.old
+            || ⟦<OwnStake as Stake>⟧.forced other) }
         ensures origin { ⟦<OwnStake as Stake>⟧.origin self.new ≡ ⟦<OwnStake as Stake>⟧.origin self.old }
-        ensures numbers { ⟦<OwnStake as Numbered>⟧.numbers self.new ≡ record (⟦<OwnStake as Numbered>⟧.numbers self.old) { faults = counted (⟦<OwnStake as Numbered>⟧.numbers self.old).faults (⟦<OwnStake as Numbered>⟧.numbers other).faults } }
+        ensures numbers { ⟦<OwnStake as Numbered>⟧.numbers self.new ≡ record (⟦<OwnStake as Numbered>⟧.numbers self.old) {
+          faults = counted
+              (⟦<OwnStake as Numbered>⟧.numbers self.old).faults (⟦<OwnStake as Numbered>⟧.numbers other).faults;
+        } }
     {
         let OwnStake {
             sizes: _,

@@ -26,7 +26,11 @@ fn zero_blocks(alloc: Global) -> Result<Vec<Vec<u8>>, NoMemory>
 fn zero_stake(alloc: Global, fails: Vec<u64>) -> Result<OwnStake, NoMemory>
     ensures held { IfOk result (λ s. (b l : ℕ) → b < 200 → l < 16 → IsSome (⟦<OwnStake as Stake>⟧.held s b l)) }
     ensures lent { IfOk result (λ s. ⟦<OwnStake as Stake>⟧.lent s ≡ nothing_lent) }
-    ensures sizes { IfOk result (λ s. ⟦<OwnStake as Stake>⟧.origin s ≡ record { id = fails.items; sizes = record { block_size = 1024; blocks = 200; first_data = 3 } }) }
+    ensures sizes { IfOk result (λ s. ⟦<OwnStake as Stake>⟧.origin s ≡ record {
+      id = fails.items;
+      sizes =
+          record { block_size = 1024; blocks = 200; first_data = 3 };
+    }) }
 {
     let sizes = Geometry {
         block_size: 1024,

@@ -35,7 +35,10 @@ impl Fs {
     ) -> Result<(), NoMemory>
         requires fits { at + length bytes.now < 2147483648 }
         requires need { need ≡ at_or_0 (λ node. range_need self.old.block node at (length bytes.now)) (map.get self.old.nodes i) }
-        ensures written { OnOk result (self.new ≡ record self.old { nodes = changed self.old.nodes i (λ node. put self.old.block node at bytes.now) }) }
+        ensures written { OnOk result (self.new ≡ record self.old {
+          nodes = changed self.old.nodes i
+              (λ node. put self.old.block node at bytes.now);
+        }) }
         ensures refused { OnErr result (self.new ≡ self.old) }
     {
         let key = u32::from(i);

@@ -3,7 +3,8 @@ ghost use Rattle.std.specs.Prelude.{◌≡◌, ◌≤◌, ◌<◌, ◌^◌, opti
 ghost use Rattle.std.specs.FinMap as map;
 ghost use Rattle.sv_plain.specs.Totals.{at_or_0};
 ghost use Rattle.sv_plain.specs.Fs.{holders, is_referenced, is_full_for, room};
-ghost use Rattle.sv_plain.specs.Names.{references_of, has_reference, promise_of, is_pending, is_directory, links_of, is_table_full, is_idle, is_opened, is_open_to_names, child};
+ghost use Rattle.sv_plain.specs.Names.{references_of, has_reference, promise_of, is_pending, is_directory, links_of, is_table_full};
+ghost use Rattle.sv_plain.specs.Names.{is_idle, is_opened, is_open_to_names, child};
 ghost use Rattle.sv_plain.specs.Step.{has_file, is_in_use};
 
 use crate::{Fs, Node, Opening};

@@ -48,7 +48,8 @@ impl Fs {
         requires whole { IsWhole self.now }
         requires there { IsSome (map.get self.now.nodes d) }
         ensures whole { IfOk result (λ page. length page.bytes ≡ self.now.block) }
-        ensures entered { IfOk result (λ page. option_map (with_sized_page page.number page.bytes page.size) (map.get self.now.nodes d) ≡ option_map (with_entry self.now.block i name.now) (map.get self.now.nodes d)) }
+        ensures entered { IfOk result (λ page. option_map (with_sized_page page.number page.bytes page.size) (map.get self.now.nodes d)
+            ≡ option_map (with_entry self.now.block i name.now) (map.get self.now.nodes d)) }
     {
         let block = self.block_size();
         let Some(node) = self.node(d) else {
@@ -74,7 +75,10 @@ impl Fs {
     ) -> Result<(), NoMemory>
         requires there { IsSome (map.get self.old.nodes d) }
         requires whole { length page.bytes ≡ self.old.block }
-        ensures put { OnOk result (self.new ≡ record self.old { nodes = changed self.old.nodes d (with_sized_page page.number page.bytes page.size) }) }
+        ensures put { OnOk result (self.new ≡ record self.old {
+          nodes = changed self.old.nodes d
+              (with_sized_page page.number page.bytes page.size);
+        }) }
         ensures refused { OnErr result (self.new ≡ self.old) }
     {
         let EntryPage {
@@ -89,7 +93,8 @@ impl Fs {
 
     // The pending inode i may be entered in d, where that takes so many blocks.
     fn allows_enter(&self, process: u8, d: u16, i: u16, need: u32) -> bool
-        ensures { result ≡ (has_reference self.now process d && (is_pending self.now process i && nat_le need (promise_of self.now process))) }
+        ensures { result ≡ (has_reference self.now process d && (is_pending self.now process i
+            && nat_le need (promise_of self.now process))) }
     {
         self.has_reference(process, d)
             && self.is_pending(process, i)

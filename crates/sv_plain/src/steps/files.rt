@@ -7,7 +7,8 @@ ghost use Rattle.sv_plain.specs.Whole.{IsWhole};
 ghost use Rattle.std.specs.List.{count_by, range_with_len};
 ghost use Rattle.std.specs.FinMap as map;
 ghost use Rattle.sv_plain.specs.Totals.{at_or_0};
-ghost use Rattle.sv_plain.specs.Step.{open_allowed, open_replies, dup_replies, has_file, seek_allowed, seek_replies, seek_base, reads, writes};
+ghost use Rattle.sv_plain.specs.Step.{open_allowed, open_replies, dup_replies, has_file, seek_allowed, seek_replies, seek_base, reads};
+ghost use Rattle.sv_plain.specs.Step.{writes};
 ghost use Rattle.sv_plain.specs.Names.{is_lowest_unused};
 
 use crate::{Fs, Illegal, Mode, NoMemory, Opening, Reply};
@@ -124,7 +125,10 @@ impl Fs {
     // Shares a file that is there once more. A count at its type's end is refused like want of memory.
     fn share(&mut self, n: u16) -> Result<(), NoMemory>
         requires { has_file self.old n ≡ true }
-        ensures shared { OnOk result (self.new ≡ record self.old { files = changed_file self.old n (λ f. record f { count = f.count + 1 }) }) }
+        ensures shared { OnOk result (self.new ≡ record self.old {
+          files = changed_file self.old n
+              (λ f. record f { count = f.count + 1 });
+        }) }
         ensures refused { OnErr result (self.new ≡ self.old) }
     {
         let Some(opening) = self.file(n) else {

@@ -169,7 +169,11 @@ impl Fs {
         requires first { map.get self.old.references (process, i) ≡ None }
         requires there { IsSome (map.get self.old.nodes d) }
         requires whole { length page.bytes ≡ self.old.block }
-        ensures put { OnOk result (self.new ≡ record self.old { nodes = changed self.old.nodes d (with_sized_page page.number page.bytes page.size); references = one_more self.old process i }) }
+        ensures put { OnOk result (self.new ≡ record self.old {
+          nodes = changed self.old.nodes d
+              (with_sized_page page.number page.bytes page.size);
+          references = one_more self.old process i;
+        }) }
         ensures refused { OnErr result (self.new ≡ self.old) }
     {
         self.add_reference(process, i)?;
@@ -197,7 +201,9 @@ impl Fs {
         requires free { is_free self.old i ≡ true }
         ensures made { OnOk result
             (self.new ≡ record self.old {
-              nodes = map.insert (changed self.old.nodes d (λ node. with_links (links_made kind) (with_entry self.old.block i name.now node))) i (new_node self.old.block i d mode kind);
+              nodes = map.insert
+                  (changed self.old.nodes d (λ node. with_links (links_made kind) (with_entry self.old.block i name.now node))) i
+                  (new_node self.old.block i d mode kind);
               references = one_more self.old process i;
             }) }
         ensures refused { OnErr result (self.new ≡ self.old) }

@@ -87,7 +87,8 @@ impl Fs {
         requires opened { is_open_to_names self.now d ≡ true }
         requires there { IsSome (child self.now d name.now) }
         ensures there { IfOk result (λ p. IsSome (page_of self.now d p.0)) }
-        ensures cleared { IfOk result (λ p. changed self.now.nodes d (with_page p.0 p.1) ≡ changed self.now.nodes d (without_entry self.now.block name.now)) }
+        ensures cleared { IfOk result (λ p. changed self.now.nodes d (with_page p.0 p.1)
+            ≡ changed self.now.nodes d (without_entry self.now.block name.now)) }
     {
         let block = self.block_size();
         let Some(node) = self.node(d) else {
@@ -142,7 +143,10 @@ impl Fs {
     ) -> Result<(), NoMemory>
         requires whole { IsWhole self.old }
         requires there { IsSome (map.get self.old.nodes i) }
-        ensures put { OnOk result (self.new ≡ record (with_reference self.old process i) { nodes = changed self.old.nodes i (with_links (λ _. links)) }) }
+        ensures put { OnOk result (self.new ≡ record (with_reference self.old process i) {
+          nodes = changed self.old.nodes i
+              (with_links (λ _. links));
+        }) }
         ensures refused { OnErr result (self.new ≡ self.old) }
     {
         self.add_reference(process, i)?;

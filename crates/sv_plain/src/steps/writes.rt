@@ -43,7 +43,9 @@ impl Fs {
     // not take either: where one of them has a block of this page, the page before it has it.
     pub(crate) fn page_need(&self, i: u16, first: u32, page: u32) -> u32
         requires { first ≤ page }
-        ensures count { result ≡ count_by (is_new (node_blocks self.now i) (if page == first then [] else blocks_at (numbers_per self.now.block) (page - 1))) (blocks_at (numbers_per self.now.block) page) }
+        ensures count { result ≡ count_by (is_new (node_blocks self.now i)
+            (if page == first then [] else blocks_at (numbers_per self.now.block) (page - 1)))
+            (blocks_at (numbers_per self.now.block) page) }
         ensures few { result ≤ 4 }
     {
         let per = self.block_size() / 4;
