@@ -19,11 +19,8 @@ use crate::read_block;
 use crate::walk::{first_page, height_of, span};
 use std::alloc::{AllocError, Global};
 use sv_dev::{Disk, Failed};
-use sv_form::{Bytes, DiskInode, Geometry, InodeBody, Mounted, number24, number32};
+use sv_form::{ADDRESSES, Bytes, DiskInode, Geometry, InodeBody, Mounted, number24, number32};
 use sv_plain::Fs;
-
-// How many addresses an inode has.
-const ADDRESSES: u32 = 13;
 
 /// Why the tree of an image was not loaded.
 #[derive(Clone, Copy, Debug, PartialEq, Eq)]

@@ -18,10 +18,7 @@ use crate::pages::PageBlock;
 use crate::{CheckFault, read_block};
 use std::alloc::Global;
 use sv_dev::Disk;
-use sv_form::{DIRECT, Geometry, NoMemory, number24, number32};
-
-// How many addresses an inode has.
-const ADDRESSES: u32 = 13;
+use sv_form::{ADDRESSES, DIRECT, Geometry, NoMemory, number24, number32};
 
 /// Whose each block is as far as the walk has come, 0 for none. Then what the walk found of the present inode: whether
 /// a block lies past its size or is an empty indirect block, whether its last page has a tail, and its pages; and the

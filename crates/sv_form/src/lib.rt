@@ -36,7 +36,7 @@ pub use number::{
     write_zeros,
 };
 pub use owners::{LineRange, Mounted, NoMemory, Owners};
-pub use page_path::{DIRECT, DOUBLE, PagePath, SINGLE, TRIPLE, pages_have_one_path};
+pub use page_path::{ADDRESSES, DIRECT, DOUBLE, PagePath, SINGLE, TRIPLE, pages_have_one_path};
 pub use place::Place;
 pub use readers::{
     nodes_read_pieces, readers_chain_the_same, readers_list_the_same, readers_reach_the_same,

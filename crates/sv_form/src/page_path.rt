@@ -26,6 +26,9 @@ pub const DOUBLE: usize = 11;
 /// Where the triple indirect block stands among them. It is the last.
 pub const TRIPLE: usize = 12;
 
+/// How many addresses an inode has.
+pub const ADDRESSES: u32 = 13;
+
 impl Geometry {
     ghost use Rattle.sv_form.specs.Geometry.{IsGeometry};
     ghost use Rattle.sv_form.specs.PagePath.{block_numbers, greatest_size, page_limit, page_of, IsPage, IsPath};

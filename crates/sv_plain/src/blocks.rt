@@ -10,9 +10,7 @@ ghost use Rattle.sv_plain.specs.Written.{without_blocks};
 use crate::{NoMemory, PairSet};
 use std::alloc::Global;
 use std::marker::Model;
-
-// How many pages an inode addresses directly.
-const DIRECT: u32 = 10;
+use sv_form::DIRECT;
 
 // What stands in a place for a block that a page does not have.
 const UNUSED: (u32, u32) = (0, 0);
