@@ -7,7 +7,7 @@ use Rattle.hex.specs.Hex.{decode_pairs, digit_or_error, encode_lower, encode_wit
 use Rattle.hex.specs.declared.error.FromHexError.{FromHexError}
 use Rattle.sv_form.specs.Number.{AreBytes}
 use Rattle.sv_journal.specs.Word.{is_lower_hex}
-use Rattle.sv_journal.proofs.Digits.{and_true}
+use Rattle.sv_plain.proofs.DigitValues.{and_true}
 
 -- ---- digits
 

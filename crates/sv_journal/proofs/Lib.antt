@@ -1,4 +1,3 @@
-pub mod Digits
 pub mod Gathered
 pub mod HexPairs
 pub mod HexWords

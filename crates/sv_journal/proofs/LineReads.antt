@@ -16,7 +16,7 @@ use Rattle.sv_journal.specs.Outcome.{◌>>=◌}
 use Rattle.sv_journal.specs.Reading.{HasNoEntry, HasNoHead}
 use Rattle.sv_journal.specs.Spelling.{entry_line, head_line, op_text, reply_text}
 use Rattle.sv_journal.specs.Word.{number_of}
-use Rattle.sv_journal.proofs.Digits.{and_true}
+use Rattle.sv_plain.proofs.DigitValues.{and_true}
 use Rattle.sv_journal.proofs.OpReads.{op-back, op-cut}
 use Rattle.sv_journal.proofs.ReplyReads.{reply-back, reply-cut}
 use Rattle.sv_journal.proofs.WordCuts.{IsTail, field-back, field-cut, first_word-back, first_word-cut, literal_word, next_byte-cut, same_text, step, this_word-back, this_word-cut}

@@ -5,7 +5,7 @@ use Rattle.std.proofs.lemmas.Bool.{and_parts, eq-eqb, false≢true, le-leb, leb-
 use Rattle.std.proofs.lemmas.List.Sums.{AllPass-from_list_all, list_all-from_AllPass}
 use Rattle.sv_form.specs.Name.{IsName, IsNameByte}
 use Rattle.sv_journal.specs.Word.{is_name, name_from}
-use Rattle.sv_journal.proofs.Digits.{and_true}
+use Rattle.sv_plain.proofs.DigitValues.{and_true}
 
 abbrev is_name_byte : ℕ → Bool
 is_name_byte b = not (b == 0) && not (b == 47)

@@ -8,7 +8,7 @@ use Rattle.std.proofs.lemmas.Bool.{cases_lt, false≢true, true≢false, lt-ltb,
 use Rattle.std.proofs.lemmas.Fmt.{decimal-digits_value, decimal_digit, decimal_is_IsNumeral, first_decimal}
 use Rattle.std.proofs.lemmas.Str.Parse.{IsNumeralModel, numerals_by_value, tells_digits}
 use Rattle.sv_journal.specs.Word.{are_digits, has_leading_zero, number_of, value_of}
-use Rattle.sv_journal.proofs.Digits.{and_true}
+use Rattle.sv_plain.proofs.DigitValues.{and_true}
 
 own : IsNumeralModel (AllDigits 10) (digits_value 10)
 own = numerals_by_value (AllDigits 10) tells_digits

@@ -1,10 +1,8 @@
 -- What a single word of a line can be.
-use Rattle.std.specs.Prelude.{◌==◌, nat_lt, nat_le, ◌&&◌, ◌||◌, not, if◌then◌else◌, ℕ, ℤ, pos, neg_ℤ, Bool, List, [], length, drop}
-use Rattle.std.specs.Prelude.{slice_index, codes, nat_eq, Option, Some, None, Result, Ok, Err}
+use Rattle.std.specs.Prelude.{◌==◌, nat_le, ◌&&◌, not, if◌then◌else◌, ℕ, ℤ, pos, neg_ℤ, Bool, List, [], length, drop, slice_index, codes}
+use Rattle.std.specs.Prelude.{nat_eq, Option, Some, None, Result, Ok, Err}
 use Rattle.std.specs.List.{list_all}
 use Rattle.std.specs.Cmp.Lexicographic.{pointwise}
-use Rattle.std.specs.Char.{digit_value}
-use Rattle.std.specs.Str.Parse.{digits_value}
 use Rattle.hex.specs.Hex.{decode_of}
 use Rattle.hex.specs.declared.error.FromHexError.{FromHexError}
 use Rattle.sv_form.specs.declared.kind.Kind.{Kind}
@@ -12,24 +10,10 @@ use Rattle.sv_form.specs.declared.kind.Kind.TheVariants.{File, Dir}
 use Rattle.sv_plain.specs.declared.mode.Mode.{Mode}
 use Rattle.sv_plain.specs.declared.mode.Mode.TheVariants.{R, W, RW}
 use Rattle.sv_journal.specs.Outcome.{◌>>=◌}
+-- numbers, and which bytes are digits of bytes
+pub use Rattle.sv_plain.specs.Digits.{are_digits, has_leading_zero, is_lower_hex, number_of, value_of}
 
 -- ---- numbers
-
--- some digits of that base, and nothing else
-abbrev pub are_digits : ℕ → List ℕ → Bool
-are_digits base word = nat_lt 0 (length word) && list_all (λ c. nat_lt (digit_value c) base) word
-
--- the digits' value, of at most so much
-abbrev pub value_of : ℕ → ℕ → List ℕ → Option ℕ
-value_of base most word = if are_digits base word && nat_le (digits_value base word) most then Some (digits_value base word) else None
-
--- a zero with digits after it
-abbrev pub has_leading_zero : List ℕ → Bool
-has_leading_zero word = nat_lt 1 (length word) && slice_index word 0 == 48
-
--- a number of at most so much, in that base, without sign or leading zero
-abbrev pub number_of : ℕ → ℕ → List ℕ → Option ℕ
-number_of base most word = if has_leading_zero word then None else value_of base most word
 
 -- a number behind a minus sign; none is zero
 abbrev pub below_zero : ℕ → Option ℤ
@@ -42,9 +26,6 @@ offset_of word =
     (number_of 10 9223372036854775807 word >>= λ n. Some (pos n))
 
 -- ---- bytes
-
-abbrev pub is_lower_hex : ℕ → Bool
-is_lower_hex c = (nat_le 48 c && nat_le c 57) || (nat_le 97 c && nat_le c 102)
 
 -- an odd number of digits spells no bytes
 abbrev pub decoded : Result (List ℕ) FromHexError → Option (List ℕ)

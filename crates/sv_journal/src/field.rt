@@ -5,10 +5,10 @@ ghost use Rattle.sv_journal.specs.Outcome.{Takes};
 
 use crate::cut::{first_word, next_word};
 use crate::refusal::Refusal;
-use crate::word::{bytes_of, kind_of, mode_of, name_of, number_of, offset_of};
+use crate::word::{bytes_of, kind_of, mode_of, name_of, offset_of};
 use std::alloc::Global;
 use sv_form::{Bytes, Kind, Name};
-use sv_plain::Mode;
+use sv_plain::{Mode, number_of};
 
 /// The process that a line begins with.
 pub fn process(text: &mut &[u8]) -> Result<u8, Refusal>

@@ -1,31 +1,16 @@
 // What a single word of a line can be.
-ghost use Rattle.std.specs.Prelude.{◌≡◌, ◌≤◌, IfSome};
-ghost use Rattle.std.specs.List.{list_all};
+ghost use Rattle.std.specs.Prelude.{◌≡◌, ◌≤◌};
 ghost use Rattle.sv_journal.specs.Outcome.{Gives};
-ghost use Rattle.sv_journal.specs.Word.{below_zero, bytes_of, has_leading_zero, hex_of, is_lower_hex, kind_of, mode_of, name_from, name_of};
-ghost use Rattle.sv_journal.specs.Word.{number_of, offset_of, value_of};
+ghost use Rattle.sv_journal.specs.Word.{below_zero, bytes_of, hex_of, kind_of, mode_of, name_from, name_of, offset_of};
 
 use crate::refusal::Refusal;
 use hex::FromHexError;
 use std::alloc::Global;
 use sv_form::{Bytes, Kind, Name};
-use sv_plain::Mode;
+use sv_plain::{Mode, are_lower_hex, number_of};
 
 /// The greatest number that stands behind a minus sign.
 const BELOW_ZERO_MAX: u64 = 9223372036854775808;
-
-/// The number that a word is, of at most so much, without sign or leading zero.
-pub fn number_of(word: &[u8], base: u32, most: u64) -> Option<u64>
-    requires least { 2 ≤ base }
-    requires greatest { base ≤ 10 }
-    ensures value { result ≡ number_of base most word.now }
-    ensures most { IfSome result (λ n. n ≤ most) }
-{
-    if has_leading_zero(word) {
-        return None;
-    }
-    value_of(word, base, most)
-}
 
 /// The offset that a word is, with a minus sign exactly where it is below zero.
 pub fn offset_of(word: &[u8]) -> Option<i64>
@@ -91,12 +76,6 @@ fn hex_of(alloc: Global, word: &[u8]) -> Result<Vec<u8>, Refusal>
     }
 }
 
-fn are_lower_hex(word: &[u8]) -> bool
-    ensures { result ≡ list_all is_lower_hex word.now }
-{
-    word.iter().all(|b| matches!(*b, b'0'..=b'9' | b'a'..=b'f'))
-}
-
 /// The kind that a letter names.
 pub fn kind_of(word: &[u8]) -> Option<Kind>
     ensures { result ≡ kind_of word.now }
@@ -123,32 +102,4 @@ pub fn mode_of(word: &[u8]) -> Option<Mode>
     } else {
         None
     }
-}
-
-fn has_leading_zero(word: &[u8]) -> bool
-    ensures { result ≡ has_leading_zero word.now }
-{
-    word.len() > 1 && word[0] == b'0'
-}
-
-fn value_of(word: &[u8], base: u32, most: u64) -> Option<u64>
-    requires least { 2 ≤ base }
-    requires greatest { base ≤ 10 }
-    ensures value { result ≡ value_of base most word.now }
-    ensures most { IfSome result (λ n. n ≤ most) }
-{
-    if word.is_empty() {
-        return None;
-    }
-    let mut value: u128 = 0;
-    for byte in word {
-        let Some(digit) = char::from(*byte).to_digit(base) else {
-            return None;
-        };
-        value = value * u128::from(base) + u128::from(digit);
-        if value > u128::from(most) {
-            return None;
-        }
-    }
-    Some(value as u64)
 }

@@ -4,6 +4,7 @@ pub mod BegunWhole
 pub mod BlocksAdded
 pub mod ClearedEntry
 pub mod Counts
+pub mod DigitValues
 pub mod DirectoryPut
 pub mod EntriesFew
 pub mod Entered

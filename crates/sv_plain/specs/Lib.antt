@@ -1,5 +1,6 @@
 pub mod Blocks
 pub mod Change
+pub mod Digits
 pub mod Entered
 pub mod Front
 pub mod Fs

@@ -6,6 +6,7 @@
 //! - `Op` is what a process may ask for, `Reply` what it is answered, `Entry` both with the process, and `Entries` a
 //!   history of them. What each op may be answered, and what it changes, is `Step` of the specs; `IsLegal` and `after` are
 //!   of whole histories.
+//! - `number_of`, `value_of` and `are_lower_hex` read the digits of a text.
 //! - `Opening` is an entry of the file table, and `Mode` what it was opened for.
 //!
 //! The meaning of a state, and what holds of it at every moment, are `Fs` and `IsWhole` of the specs.
@@ -13,6 +14,7 @@
 
 mod beginning;
 mod blocks;
+mod digits;
 mod directory_bytes;
 mod entries;
 mod entry;
@@ -43,6 +45,7 @@ mod tests;
 mod tree_text;
 
 pub use beginning::begin;
+pub use digits::{are_lower_hex, number_of, value_of};
 pub use entries::Entries;
 pub use entry::Entry;
 pub use fs::Fs;

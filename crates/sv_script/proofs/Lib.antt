@@ -1,5 +1,4 @@
 pub mod AnswerLaws
-pub mod Digits
 pub mod LineSteps
 pub mod ParseSteps
 pub mod ScriptSteps

@@ -1,15 +1,14 @@
 // What a single word of a line can be.
 ghost use Rattle.std.specs.Prelude.{◌≡◌, ◌≤◌, IfOk};
 ghost use Rattle.sv_script.specs.Outcome.{Gives};
-ghost use Rattle.sv_script.specs.Word.{hex_of, is_lower_hex, mode_of, number_of, octal_of, offset_of, value_of};
+ghost use Rattle.sv_script.specs.Word.{hex_of, mode_of, number_of, octal_of, offset_of};
 ghost use Rattle.sv_script.specs.Grammar.{IsOffset};
-ghost use Rattle.std.specs.List.{list_all};
 
 use crate::fault::ScriptFault;
 use hex::FromHexError;
 use std::alloc::Global;
 use sv_form::Bytes;
-use sv_plain::Mode;
+use sv_plain::{Mode, are_lower_hex, value_of};
 
 /// The greatest number of a descriptor, a count or an offset without its sign.
 pub const NUMBER_MAX: u32 = 4294967295;
@@ -34,10 +33,10 @@ pub fn number_of(word: &[u8], most: u32) -> Result<u32, ScriptFault>
     ensures value { result ≡ number_of most word.now }
     ensures most { IfOk result (λ n. n ≤ most) }
 {
-    if word.len() > 1 && word[0] == b'0' {
-        return Err(ScriptFault::Number);
+    match sv_plain::number_of(word, 10, u64::from(most)) {
+        Some(number) => Ok(number as u32),
+        None => Err(ScriptFault::Number),
     }
-    value_of(word, 10, most)
 }
 
 /// The mode bits that one to four octal digits give.
@@ -48,8 +47,10 @@ pub fn octal_of(word: &[u8]) -> Result<u16, ScriptFault>
     if word.len() > 4 {
         return Err(ScriptFault::Number);
     }
-    let mode = value_of(word, 8, 4095)?;
-    Ok(mode as u16)
+    match value_of(word, 8, 4095) {
+        Some(mode) => Ok(mode as u16),
+        None => Err(ScriptFault::Number),
+    }
 }
 
 /// A number, with a minus sign before it if wanted.
@@ -77,32 +78,4 @@ pub fn hex_of(alloc: Global, word: &[u8]) -> Result<Bytes, ScriptFault>
         Err(FromHexError::OutOfMemory) => Err(ScriptFault::NoMemory),
         Err(_) => Err(ScriptFault::Hex),
     }
-}
-
-fn are_lower_hex(word: &[u8]) -> bool
-    ensures { result ≡ list_all is_lower_hex word.now }
-{
-    word.iter().all(|b| matches!(*b, b'0'..=b'9' | b'a'..=b'f'))
-}
-
-fn value_of(word: &[u8], base: u32, most: u32) -> Result<u32, ScriptFault>
-    requires least { 2 ≤ base }
-    requires greatest { base ≤ 10 }
-    ensures value { result ≡ value_of base most word.now }
-    ensures most { IfOk result (λ n. n ≤ most) }
-{
-    if word.is_empty() {
-        return Err(ScriptFault::Number);
-    }
-    let mut value: u64 = 0;
-    for byte in word {
-        let Some(digit) = char::from(*byte).to_digit(base) else {
-            return Err(ScriptFault::Number);
-        };
-        value = value * u64::from(base) + u64::from(digit);
-        if value > u64::from(most) {
-            return Err(ScriptFault::Number);
-        }
-    }
-    Ok(value as u32)
 }

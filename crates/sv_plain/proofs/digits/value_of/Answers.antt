@@ -1,8 +1,8 @@
 use Rattle.std.proofs.Common.{◌∙◌, ◌<◌, ◌+◌, subst, sym, below_more, arith, ℕ, length}
 use Rattle.std.proofs.lemmas.Bool.{eqb-false}
 use Rattle.std.specs.Char.{digit_value}
-use Rattle.sv_journal.proofs.Digits.{too_large, value_step, value_read}
-use Rattle.sv_journal.proofs.word.value_of.Goals as goal
+use Rattle.sv_plain.proofs.DigitValues.{too_large, value_step, value_read}
+use Rattle.sv_plain.proofs.digits.value_of.Goals as goal
 
 pub returns-then-value-from-clause-value : goal.returns-then-value-from-clause-value
 returns-then-value-from-clause-value c =
