@@ -96,6 +96,15 @@ inode-hole block node page j e there low =
     entry-byte block node page j (16 * (64 * page + j) + 1) (16 * j + 1) None e there (omega arith) (omega arith) (omega (arith, low)) in
     omega (arith, one, two)
 
+-- in a hole no entry has an inode
+pub place-hole : {o : Origin} {h : Held} {body : InodeBody} (node : Node) (page place : ℕ) → IsGeometry o.sizes → IsPage o.sizes page
+    → page ≡ 16 * place / 1024 → StandsFor o h body node → block_of o.sizes h body.addresses page ≡ None
+    → entry_inode o.sizes.block_size node place ≡ 0
+place-hole {o} node page place sizes is at stands hole =
+    let whole : place ≡ 64 * page + place % 64 = omega (arith, at) in
+    ap (entry_inode o.sizes.block_size node) whole
+    ∙ inode-hole o.sizes.block_size node page (place % 64) sizes.block_size (page-hole page sizes is stands hole) (omega arith)
+
 name-there : (block : ℕ) (node : Node) (page j : ℕ) (bytes : List ℕ) → block ≡ 1024 → fmap.get node.pages page ≡ Some bytes → j < 64
     → 16 * j + 16 ≤ length bytes → entry_name block node (64 * page + j) ≡ until_zero (slice_range bytes (16 * j + 2) (16 * j + 16))
 unfolding entry_name bytes_of
@@ -265,15 +274,14 @@ first-place p n i within before here =
     own : (k : ℕ) → k < n → get_or (range_with_len 0 n) k 0 ≡ k
     own k h = omega (arith, get_or-range_with_len 0 n k 0 h)
 
-pub looked : (block : ℕ) (node : Node) (name : List ℕ) (n : ℕ) (found : ℕ × ℕ) → n ≡ entry_count node
-    → IsFirst (is_entry block node name) (entry_inode block node) n found → Some found.1 ≡ child_of block node name
+-- where the first entry with the name stands
+pub place-first : (block : ℕ) (node : Node) (name : List ℕ) (n : ℕ) (found : ℕ × ℕ) → n ≡ entry_count node
+    → IsFirst (is_entry block node name) (entry_inode block node) n found → place_of block node name ≡ Some found.0
 unfolding place_of
-looked block node name n found size finds =
-    ap (λ q. Some q) finds.inode
-    ∙ sym (ap (option_map (entry_inode block node))
-    (ap (λ j. cond (nat_lt j (length (range_with_len 0 (entry_count node)))) (Some j) None)
+place-first block node name n found size finds =
+    ap (λ j. cond (nat_lt j (length (range_with_len 0 (entry_count node)))) (Some j) None)
     (first-place (is_entry block node name) (entry_count node) found.0 (omega (arith, size, finds.within)) finds.before (λ _. finds.here))
-    ∙ ap (λ t. cond t (Some found.0) None) inside))
+    ∙ ap (λ t. cond t (Some found.0) None) inside
   where
     yes : (a b : ℕ) → a < b → nat_lt a b ≡ true
     yes a b h = grind (nat_tests, arith)
@@ -282,15 +290,14 @@ looked block node name n found size finds =
     inside = yes found.0 (length (range_with_len 0 (entry_count node)))
         (omega (arith, size, finds.within, length-range_with_len 0 (entry_count node)))
 
-pub none-looked : (block : ℕ) (node : Node) (name : List ℕ) (n : ℕ) → n ≡ entry_count node
-    → ((k : ℕ) → k < n → is_entry block node name k ≡ false) → None ≡ child_of block node name
+pub no-place : (block : ℕ) (node : Node) (name : List ℕ) (n : ℕ) → n ≡ entry_count node
+    → ((k : ℕ) → k < n → is_entry block node name k ≡ false) → place_of block node name ≡ None
 unfolding place_of
-none-looked block node name n size none =
-    sym (ap (option_map (entry_inode block node))
-    (ap (λ j. cond (nat_lt j (length (range_with_len 0 (entry_count node)))) (Some j) None)
+no-place block node name n size none =
+    ap (λ j. cond (nat_lt j (length (range_with_len 0 (entry_count node)))) (Some j) None)
     (first-place (is_entry block node name) (entry_count node) (entry_count node) (omega arith)
     (λ k low. none k (omega (arith, low, size))) (λ low. absurd (omega (arith, low))))
-    ∙ ap (λ t. cond t (Some (entry_count node)) None) outside))
+    ∙ ap (λ t. cond t (Some (entry_count node)) None) outside
   where
     no : (a b : ℕ) → b ≤ a → nat_lt a b ≡ false
     no a b h = grind (nat_tests, arith)
@@ -298,3 +305,12 @@ none-looked block node name n size none =
     outside : nat_lt (entry_count node) (length (range_with_len 0 (entry_count node))) ≡ false
     outside = no (entry_count node) (length (range_with_len 0 (entry_count node)))
         (omega (arith, length-range_with_len 0 (entry_count node)))
+
+pub looked : (block : ℕ) (node : Node) (name : List ℕ) (n : ℕ) (found : ℕ × ℕ) → n ≡ entry_count node
+    → IsFirst (is_entry block node name) (entry_inode block node) n found → Some found.1 ≡ child_of block node name
+looked block node name n found size finds =
+    ap (λ q. Some q) finds.inode ∙ sym (ap (option_map (entry_inode block node)) (place-first block node name n found size finds))
+
+pub none-looked : (block : ℕ) (node : Node) (name : List ℕ) (n : ℕ) → n ≡ entry_count node
+    → ((k : ℕ) → k < n → is_entry block node name k ≡ false) → None ≡ child_of block node name
+none-looked block node name n size none = sym (ap (option_map (entry_inode block node)) (no-place block node name n size none))

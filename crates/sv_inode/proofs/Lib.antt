@@ -1,3 +1,4 @@
+mod Blanked
 mod ElevenPages
 mod Emptied
 mod FourPages
