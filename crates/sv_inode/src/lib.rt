@@ -13,6 +13,8 @@ mod cuts;
 mod fill;
 mod locked;
 mod names;
+#[cfg(test)]
+mod names_tests;
 mod range;
 mod stop;
 mod supplies;

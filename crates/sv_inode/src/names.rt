@@ -1,5 +1,6 @@
 // The names of a directory.
-ghost use Rattle.std.specs.Prelude.{◌≡◌, ◌≢◌, OnErr, OnOk, IsSome, replicate, ◌≤◌, ◌<◌, ◌+◌, ◌*◌, ◌/◌, ℕ, IfOk, IfSome, length, slice_index};
+ghost use Rattle.std.specs.Prelude.{◌≡◌, ◌≢◌, ◌≤◌, ◌<◌, ◌+◌, ◌*◌, ◌/◌, ℕ, IfOk, IfSome, IsSome, OnErr, OnOk, length, replicate};
+ghost use Rattle.std.specs.Prelude.{slice_index};
 ghost use Rattle.sv_form.specs.Entries.{until_zero};
 ghost use Rattle.sv_form.specs.Node.{Node, entry_inode};
 ghost use Rattle.sv_form.specs.NodeChanges as changes;

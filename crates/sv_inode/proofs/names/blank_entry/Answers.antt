@@ -41,7 +41,9 @@ returns-in-Some-clause-front g c = record {
     home = c.blank_in.ensures.origin ∙ c.lookup.ensures.stake.home;
     no_less = omega (arith, c.lookup.ensures.cause.no_less, c.blank_in.ensures.cause.no_less);
   };
-  before = λ b l low is. c.blank_in.ensures.others b l (λ e. omega (arith, low, e, owned.least)) ∙ ap (λ q. q b l) c.lookup.ensures.stake.lines;
+  before = λ b l low is.
+      c.blank_in.ensures.others b l (λ e. omega (arith, low, e, owned.least))
+      ∙ ap (λ q. q b l) c.lookup.ensures.stake.lines;
 }
   where
     sizes : IsGeometry (g.S.Stake.origin c.args.s.now).sizes

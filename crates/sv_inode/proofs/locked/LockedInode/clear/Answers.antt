@@ -14,7 +14,8 @@ use Rattle.sv_inode.proofs.locked.LockedInode.clear.Goals as goal
 pub returns-in-Some-clause-node : goal.returns-in-Some-clause-node
 returns-in-Some-clause-node g c = λ node stands is.
     (let P : Origin → Type 0 = λ q. OnOk c.blank_entry.result (StandsFor (g.S.Stake.origin c.blank_entry.new.s)
-    (g.S.Stake.held c.blank_entry.new.s) c.args.self.now.body (changes.put q.sizes.block_size node (16 * c.in-Some.place) (replicate 16 0))) in
+    (g.S.Stake.held c.blank_entry.new.s) c.args.self.now.body
+    (changes.put q.sizes.block_size node (16 * c.in-Some.place) (replicate 16 0))) in
     let W : ℕ → Type 0 = λ q. OnOk c.blank_entry.result (StandsFor (g.S.Stake.origin c.blank_entry.new.s)
     (g.S.Stake.held c.blank_entry.new.s) c.args.self.now.body
     (changes.put (g.S.Stake.origin c.args.self.now.stake).sizes.block_size node (16 * q) (replicate 16 0))) in
