@@ -217,8 +217,8 @@ impl<S: Stake> LockedInode<S> {
         }
     }
 
-    /// Makes the entry with this name empty (Bach, chapter 5.16, algorithm unlink): all its bytes become zero. Where no
-    /// entry has the name nothing changes. A refusal is a fault that the stake has counted, and changes no line.
+    /// Makes the entry with this name empty (Bach, chapter 5.16, algorithm unlink): all its bytes become zero. It is meant
+    /// for a name that is there. A refusal is a fault that the stake has counted, and changes no line.
     pub fn clear<R: Wait>(&mut self, rt: &R, name: &Name) -> Result<(), Refusal>
         requires tree { HasTree (S.origin self.old.stake) (S.held self.old.stake) self.old.body.addresses }
         requires size { self.old.body.size ≤ greatest_size (S.origin self.old.stake).sizes }
