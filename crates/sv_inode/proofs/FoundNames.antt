@@ -1,6 +1,7 @@
 -- An entry that is found in the bytes of a page is the entry of the node, and the first one leads where the name leads.
 use Rattle.std.proofs.Common.{◌≡◌, ◌≤◌, ◌^◌, ◌<◌, ◌+◌, ◌-◌, ◌*◌, ◌/◌, ◌%◌, ◌==◌, ◌&&◌, ℕ, Bool, true, false, cond, not, List, [], ◌∷◌}
-use Rattle.std.proofs.Common.{length, min, take, drop, get_or, slice_range, Option, Some, None, option_map, nat_lt, arith, refl, sym, ap, ◌∙◌, subst}
+use Rattle.std.proofs.Common.{length, min, take, drop, get_or, slice_range, Option, Some, None, option_map, nat_lt, arith, refl}
+use Rattle.std.proofs.Common.{sym, ap, ◌∙◌, subst}
 use Rattle.std.specs.FinMap as fmap
 use Rattle.std.specs.List.{range_with_len, position_or_len}
 use Rattle.std.proofs.lemmas.Bool.Decides.{nat_tests}
@@ -85,7 +86,8 @@ inode-there block node page j bytes e there low =
     ap (λ q. q + 256 * byte_of block node (16 * (64 * page + j) + 1))
     (entry-byte block node page j (16 * (64 * page + j)) (16 * j) (Some bytes) e there (omega arith) (omega arith) (omega (arith, low)))
     ∙ ap (λ q. get_or bytes (16 * j) 0 + 256 * q)
-    (entry-byte block node page j (16 * (64 * page + j) + 1) (16 * j + 1) (Some bytes) e there (omega arith) (omega arith) (omega (arith, low)))
+    (entry-byte block node page j (16 * (64 * page + j) + 1) (16 * j + 1) (Some bytes) e there (omega arith) (omega arith)
+    (omega (arith, low)))
 
 inode-hole : (block : ℕ) (node : Node) (page j : ℕ) → block ≡ 1024 → fmap.get node.pages page ≡ None → j < 64
     → entry_inode block node (64 * page + j) ≡ 0
@@ -96,11 +98,21 @@ inode-hole block node page j e there low =
     entry-byte block node page j (16 * (64 * page + j) + 1) (16 * j + 1) None e there (omega arith) (omega arith) (omega (arith, low)) in
     omega (arith, one, two)
 
+-- in a hole no entry has an inode
+pub place-hole : {o : Origin} {h : Held} {body : InodeBody} (node : Node) (page place : ℕ) → IsGeometry o.sizes → IsPage o.sizes page
+    → page ≡ 16 * place / 1024 → StandsFor o h body node → block_of o.sizes h body.addresses page ≡ None
+    → entry_inode o.sizes.block_size node place ≡ 0
+place-hole {o} node page place sizes is at stands hole =
+    let whole : place ≡ 64 * page + place % 64 = omega (arith, at) in
+    ap (entry_inode o.sizes.block_size node) whole
+    ∙ inode-hole o.sizes.block_size node page (place % 64) sizes.block_size (page-hole page sizes is stands hole) (omega arith)
+
 name-there : (block : ℕ) (node : Node) (page j : ℕ) (bytes : List ℕ) → block ≡ 1024 → fmap.get node.pages page ≡ Some bytes → j < 64
     → 16 * j + 16 ≤ length bytes → entry_name block node (64 * page + j) ≡ until_zero (slice_range bytes (16 * j + 2) (16 * j + 16))
 unfolding entry_name bytes_of
 name-there block node page j bytes e there low fits =
-    ap until_zero (sym (list_is_map (slice_range bytes (16 * j + 2) (16 * j + 16)) (byte_of block node) (16 * (64 * page + j) + 2) 14 size each))
+    ap until_zero
+    (sym (list_is_map (slice_range bytes (16 * j + 2) (16 * j + 16)) (byte_of block node) (16 * (64 * page + j) + 2) 14 size each))
   where
     size : length (take (16 * j + 16 - (16 * j + 2)) (drop (16 * j + 2) bytes)) ≡ 14
     size = length-take (16 * j + 16 - (16 * j + 2)) (drop (16 * j + 2) bytes) ∙ omega (arith, fits, length-drop (16 * j + 2) bytes)
@@ -138,13 +150,15 @@ gets-since {o} {o'} {h} {h'} {b} {buf} e f gets =
     let Q : Held → Type 0 = λ q. Gets o' q b buf in
     subst P e (subst Q f gets)
 
-pub found-since : {o o' : Origin} {h h' : Held} {body : InodeBody} (page count : ℕ) (name : List ℕ) (found : Option (ℕ × ℕ)) → o' ≡ o → h' ≡ h
+pub found-since : {o o' : Origin} {h h' : Held} {body : InodeBody} (page count : ℕ) (name : List ℕ) (found : Option (ℕ × ℕ)) → o' ≡ o
+    → h' ≡ h
     → ((node : Node) → StandsFor o' h' body node → Finds (λ j. is_entry o'.sizes.block_size node name (64 * page + j))
     (λ j. entry_inode o'.sizes.block_size node (64 * page + j)) count found)
     → (node : Node) → StandsFor o h body node → Finds (λ j. is_entry o.sizes.block_size node name (64 * page + j))
     (λ j. entry_inode o.sizes.block_size node (64 * page + j)) count found
 found-since {o} {o'} {h} {h'} {body} page count name found e f each =
-    let P : Origin → Type 0 = λ q. (node : Node) → StandsFor q h body node → Finds (λ j. is_entry q.sizes.block_size node name (64 * page + j))
+    let P : Origin → Type 0 = λ q. (node : Node) → StandsFor q h body node
+    → Finds (λ j. is_entry q.sizes.block_size node name (64 * page + j))
     (λ j. entry_inode q.sizes.block_size node (64 * page + j)) count found in
     let Q : Held → Type 0 = λ q. (node : Node) → StandsFor o' q body node
     → Finds (λ j. is_entry o'.sizes.block_size node name (64 * page + j))
@@ -156,7 +170,8 @@ pub page-found : {o o' : Origin} {h h' : Held} {body : InodeBody} (node : Node) 
     (found : Option (ℕ × ℕ)) → IsGeometry o.sizes → IsPage o.sizes page → 16 * count ≤ o.sizes.block_size → StandsFor o h body node
     → block_of o.sizes h body.addresses page ≡ Some p → o' ≡ o → h' ≡ h → Gets o' h' p buf
     → Finds (λ j. is_named buf.bytes name (16 * j)) (λ j. number16 buf.bytes (16 * j)) count found
-    → Finds (λ j. is_entry o.sizes.block_size node name (64 * page + j)) (λ j. entry_inode o.sizes.block_size node (64 * page + j)) count found
+    → Finds (λ j. is_entry o.sizes.block_size node name (64 * page + j))
+    (λ j. entry_inode o.sizes.block_size node (64 * page + j)) count found
 page-found {o} {o'} {h} {h'} {body} node {p} {buf} page count name found sizes is few stands there e f gets finds =
     finds-alike found
     (λ k low. entry-there o.sizes.block_size node name page k buf.bytes sizes.block_size got (omega (arith, low, few, sizes.block_size))
@@ -265,15 +280,14 @@ first-place p n i within before here =
     own : (k : ℕ) → k < n → get_or (range_with_len 0 n) k 0 ≡ k
     own k h = omega (arith, get_or-range_with_len 0 n k 0 h)
 
-pub looked : (block : ℕ) (node : Node) (name : List ℕ) (n : ℕ) (found : ℕ × ℕ) → n ≡ entry_count node
-    → IsFirst (is_entry block node name) (entry_inode block node) n found → Some found.1 ≡ child_of block node name
+-- where the first entry with the name stands
+pub place-first : (block : ℕ) (node : Node) (name : List ℕ) (n : ℕ) (found : ℕ × ℕ) → n ≡ entry_count node
+    → IsFirst (is_entry block node name) (entry_inode block node) n found → place_of block node name ≡ Some found.0
 unfolding place_of
-looked block node name n found size finds =
-    ap (λ q. Some q) finds.inode
-    ∙ sym (ap (option_map (entry_inode block node))
-    (ap (λ j. cond (nat_lt j (length (range_with_len 0 (entry_count node)))) (Some j) None)
+place-first block node name n found size finds =
+    ap (λ j. cond (nat_lt j (length (range_with_len 0 (entry_count node)))) (Some j) None)
     (first-place (is_entry block node name) (entry_count node) found.0 (omega (arith, size, finds.within)) finds.before (λ _. finds.here))
-    ∙ ap (λ t. cond t (Some found.0) None) inside))
+    ∙ ap (λ t. cond t (Some found.0) None) inside
   where
     yes : (a b : ℕ) → a < b → nat_lt a b ≡ true
     yes a b h = grind (nat_tests, arith)
@@ -282,15 +296,14 @@ looked block node name n found size finds =
     inside = yes found.0 (length (range_with_len 0 (entry_count node)))
         (omega (arith, size, finds.within, length-range_with_len 0 (entry_count node)))
 
-pub none-looked : (block : ℕ) (node : Node) (name : List ℕ) (n : ℕ) → n ≡ entry_count node
-    → ((k : ℕ) → k < n → is_entry block node name k ≡ false) → None ≡ child_of block node name
+pub no-place : (block : ℕ) (node : Node) (name : List ℕ) (n : ℕ) → n ≡ entry_count node
+    → ((k : ℕ) → k < n → is_entry block node name k ≡ false) → place_of block node name ≡ None
 unfolding place_of
-none-looked block node name n size none =
-    sym (ap (option_map (entry_inode block node))
-    (ap (λ j. cond (nat_lt j (length (range_with_len 0 (entry_count node)))) (Some j) None)
+no-place block node name n size none =
+    ap (λ j. cond (nat_lt j (length (range_with_len 0 (entry_count node)))) (Some j) None)
     (first-place (is_entry block node name) (entry_count node) (entry_count node) (omega arith)
     (λ k low. none k (omega (arith, low, size))) (λ low. absurd (omega (arith, low))))
-    ∙ ap (λ t. cond t (Some (entry_count node)) None) outside))
+    ∙ ap (λ t. cond t (Some (entry_count node)) None) outside
   where
     no : (a b : ℕ) → b ≤ a → nat_lt a b ≡ false
     no a b h = grind (nat_tests, arith)
@@ -298,3 +311,12 @@ none-looked block node name n size none =
     outside : nat_lt (entry_count node) (length (range_with_len 0 (entry_count node))) ≡ false
     outside = no (entry_count node) (length (range_with_len 0 (entry_count node)))
         (omega (arith, length-range_with_len 0 (entry_count node)))
+
+pub looked : (block : ℕ) (node : Node) (name : List ℕ) (n : ℕ) (found : ℕ × ℕ) → n ≡ entry_count node
+    → IsFirst (is_entry block node name) (entry_inode block node) n found → Some found.1 ≡ child_of block node name
+looked block node name n found size finds =
+    ap (λ q. Some q) finds.inode ∙ sym (ap (option_map (entry_inode block node)) (place-first block node name n found size finds))
+
+pub none-looked : (block : ℕ) (node : Node) (name : List ℕ) (n : ℕ) → n ≡ entry_count node
+    → ((k : ℕ) → k < n → is_entry block node name k ≡ false) → None ≡ child_of block node name
+none-looked block node name n size none = sym (ap (option_map (entry_inode block node)) (no-place block node name n size none))

@@ -1,3 +1,5 @@
+mod Blanked
+mod DirectorySample
 mod ElevenPages
 mod Emptied
 mod FourPages

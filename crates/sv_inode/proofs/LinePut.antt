@@ -31,7 +31,8 @@ middle xs ys zs at before size =
     dropped (w ∷ ws) = dropped ws
 
 -- a line outside of what was written stays
-pub outside : {old new : List ℕ} (at first l : ℕ) → ChangesOnly old new at (at + 64) → at ≡ first * 64 → l ≢ first → line_of new l ≡ line_of old l
+pub outside : {old new : List ℕ} (at first l : ℕ) → ChangesOnly old new at (at + 64) → at ≡ first * 64 → l ≢ first
+    → line_of new l ≡ line_of old l
 outside {old} {new} at first l changes is apart = line_of-same new old l changes.len (λ k below. by k below (nat_lt l first) refl)
   where
     low : (a b : ℕ) → nat_lt a b ≡ true → a < b

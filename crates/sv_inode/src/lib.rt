@@ -6,13 +6,15 @@
 //! - `writei` puts bytes into the node; it takes all blocks before it puts one.
 //! - `truncate` makes the file empty, and gives its blocks back.
 //! - `update` puts the body into the inode's line.
-//! - `look` gives the inode that a name leads to in a directory.
+//! - `look` gives the inode that a name leads to in a directory, and `clear` makes the entry of a name empty.
 #![tactic(auto)]
 
 mod cuts;
 mod fill;
 mod locked;
 mod names;
+#[cfg(test)]
+mod names_tests;
 mod range;
 mod stop;
 mod supplies;

@@ -1,16 +1,22 @@
 // The names of a directory.
-ghost use Rattle.std.specs.Prelude.{◌≡◌, ◌≤◌, ◌<◌, ◌+◌, ◌*◌, ◌/◌, ℕ, IfOk, IfSome, length, slice_index};
+ghost use Rattle.std.specs.Prelude.{◌≡◌, ◌≢◌, ◌≤◌, ◌<◌, ◌+◌, ◌*◌, ◌/◌, ℕ, IfOk, IfSome, IsSome, OnErr, OnOk, length, replicate};
+ghost use Rattle.std.specs.Prelude.{slice_index};
 ghost use Rattle.sv_form.specs.Entries.{until_zero};
 ghost use Rattle.sv_form.specs.Node.{Node, entry_inode};
-ghost use Rattle.sv_form.specs.NodeNames.{child_of, is_entry, same_bytes};
+ghost use Rattle.sv_form.specs.NodeChanges as changes;
+ghost use Rattle.sv_form.specs.NodeNames.{child_of, is_entry, place_of, same_bytes, without_entry};
 ghost use Rattle.sv_form.specs.Number.{number16};
 ghost use Rattle.sv_form.specs.PagePath.{IsPage, greatest_size};
 ghost use Rattle.sv_store.specs.Causes.{HasFault};
 ghost use Rattle.sv_store.specs.Frames.{Unchanged};
-ghost use Rattle.sv_store.specs.Held.{nothing_lent};
+ghost use Rattle.sv_store.specs.Calls.{Gets};
+ghost use Rattle.sv_store.specs.Held.{HoldsBlock, SameLines, nothing_lent, put};
+ghost use Rattle.sv_store.specs.Loan.{Loan};
 ghost use Rattle.sv_bmap.specs.Tree.{IsTree};
+ghost use Rattle.sv_inode.specs.Frames.{KeepsFront};
 ghost use Rattle.sv_inode.specs.Names.{Finds, is_named};
-ghost use Rattle.sv_inode.specs.StandsFor.{StandsFor};
+ghost use Rattle.sv_inode.specs.StandsFor.{HasTree, StandsFor};
+ghost use Rattle.sv_inode.specs.Write.{patched};
 
 use crate::LockedInode;
 use std::sync::Wait;
@@ -112,6 +118,7 @@ fn find_entry<R: Wait, S: Stake>(
     ensures found { (node : Node) → StandsFor (S.origin s.old) (S.held s.old) body.now node
         → IfOk result (Finds (is_entry (S.origin s.old).sizes.block_size node name.now)
         (entry_inode (S.origin s.old).sizes.block_size node) (body.now.size / 16)) }
+    ensures within { IfOk result (λ found. IfSome found (λ found. found.0 < body.now.size / 16)) }
     ensures stake { Unchanged S.held S.lent S.origin S.forced s.old s.new }
     ensures cause { HasFault (S.faults s.old) (S.faults s.new) result }
 {
@@ -124,6 +131,70 @@ fn find_entry<R: Wait, S: Stake>(
         }
     }
     Ok(None)
+}
+
+// Makes the bytes of an entry zero.
+fn blank(bytes: &mut [u8], from: usize)
+    requires fits { from + 16 ≤ length bytes.old }
+    ensures bytes { bytes.new ≡ patched bytes.old from (replicate 16 0) }
+    ensures len { length bytes.new ≡ length bytes.old }
+{
+    bytes[from..from + ENTRY_SIZE].copy_from_slice(&[0; ENTRY_SIZE]);
+}
+
+// Makes the bytes of an entry zero in a block.
+fn blank_in<R: Wait, S: Stake>(rt: &R, s: &mut S, b: u32, from: usize) -> Result<(), Refusal>
+    requires block { HoldsBlock (S.origin s.old) (S.held s.old) b }
+    requires fits { from + 16 ≤ (S.origin s.old).sizes.block_size }
+    requires lent { S.lent s.old ≡ nothing_lent }
+    ensures ok { OnOk result ((buf : Loan)
+        × (Gets (S.origin s.old) (S.held s.old) b buf × (S.held s.new ≡ put b (patched buf.bytes from (replicate 16 0)) (S.held s.old)))) }
+    ensures err { OnErr result (S.held s.new ≡ S.held s.old) }
+    ensures lines { SameLines (S.held s.new) (S.held s.old) }
+    ensures others { (c l : ℕ) → c ≢ b → S.held s.new c l ≡ S.held s.old c l }
+    ensures lends { S.lent s.new ≡ nothing_lent }
+    ensures forced { S.forced s.new ≡ S.forced s.old }
+    ensures origin { S.origin s.new ≡ S.origin s.old }
+    ensures cause { HasFault (S.faults s.old) (S.faults s.new) result }
+{
+    let _sizes = s.geometry();
+    let mut buf = s.bread(rt, b)?;
+    let bytes = buf.bytes_mut();
+    blank(bytes, from);
+    s.bdwrite(rt, buf);
+    Ok(())
+}
+
+// Makes the bytes of an entry with an inode zero. Its page is present.
+fn blank_entry<R: Wait, S: Stake>(
+    rt: &R,
+    body: &InodeBody,
+    s: &mut S,
+    place: u32,
+) -> Result<(), Refusal>
+    requires tree { HasTree (S.origin s.old) (S.held s.old) body.now.addresses }
+    requires size { body.now.size ≤ greatest_size (S.origin s.old).sizes }
+    requires place { place < body.now.size / 16 }
+    requires used { (node : Node) → StandsFor (S.origin s.old) (S.held s.old) body.now node
+        → entry_inode (S.origin s.old).sizes.block_size node place ≢ 0 }
+    requires lent { S.lent s.old ≡ nothing_lent }
+    ensures node { (node : Node) → StandsFor (S.origin s.old) (S.held s.old) body.now node
+        → OnOk result (StandsFor (S.origin s.new) (S.held s.new) body.now
+        (changes.put (S.origin s.old).sizes.block_size node (16 * place) (replicate 16 0))) }
+    ensures kept { OnErr result (S.held s.new ≡ S.held s.old) }
+    ensures lines { SameLines (S.held s.new) (S.held s.old) }
+    ensures front { KeepsFront S.held S.lent S.origin S.forced S.faults s.old s.new }
+    ensures cause { HasFault (S.faults s.old) (S.faults s.new) result }
+{
+    let sizes = s.geometry();
+    let at = 16 * place;
+    let page = at / sizes.block_size;
+    let from = at % sizes.block_size;
+    let block = lookup(rt, &body.addresses, s, page)?;
+    match block {
+        Some(b) => blank_in(rt, s, b, from as usize),
+        None => Ok(()),
+    }
 }
 
 impl<S: Stake> LockedInode<S> {
@@ -143,6 +214,30 @@ impl<S: Stake> LockedInode<S> {
         match find_entry(rt, &self.body, &mut self.stake, name)? {
             Some((_, inode)) => Ok(Some(inode)),
             None => Ok(None),
+        }
+    }
+
+    /// Makes the entry with this name empty (Bach, chapter 5.16, algorithm unlink): all its bytes become zero. It is meant
+    /// for a name that is there. A refusal is a fault that the stake has counted, and changes no line.
+    pub fn clear<R: Wait>(&mut self, rt: &R, name: &Name) -> Result<(), Refusal>
+        requires tree { HasTree (S.origin self.old.stake) (S.held self.old.stake) self.old.body.addresses }
+        requires size { self.old.body.size ≤ greatest_size (S.origin self.old.stake).sizes }
+        requires lent { S.lent self.old.stake ≡ nothing_lent }
+        ensures node { (node : Node) → StandsFor (S.origin self.old.stake) (S.held self.old.stake) self.old.body node
+            → IsSome (place_of (S.origin self.old.stake).sizes.block_size node name.now)
+            → OnOk result (StandsFor (S.origin self.new.stake) (S.held self.new.stake) self.new.body
+            (without_entry (S.origin self.old.stake).sizes.block_size name.now node)) }
+        ensures kept { OnErr result (S.held self.new.stake ≡ S.held self.old.stake) }
+        ensures lines { SameLines (S.held self.new.stake) (S.held self.old.stake) }
+        ensures number { self.new.number ≡ self.old.number }
+        ensures body { self.new.body ≡ self.old.body }
+        ensures front { KeepsFront S.held S.lent S.origin S.forced S.faults self.old.stake self.new.stake }
+        ensures cause { HasFault (S.faults self.old.stake) (S.faults self.new.stake) result }
+    {
+        let found = find_entry(rt, &self.body, &mut self.stake, name)?;
+        match found {
+            Some((place, _)) => blank_entry(rt, &self.body, &mut self.stake, place),
+            None => Ok(()),
         }
     }
 }

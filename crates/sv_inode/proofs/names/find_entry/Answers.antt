@@ -28,7 +28,8 @@ returns-in-Some-clause-found g c = λ node stands.
     (λ j. is_entry (g.S.Stake.origin c.args.s.now).sizes.block_size node c.args.name.now (64 * c.loop-page.page + j))
     (λ j. entry_inode (g.S.Stake.origin c.args.s.now).sizes.block_size node (64 * c.loop-page.page + j)) (c.min-count.result / 16) x in
     subst P c.in-Some.is
-    (found-since c.loop-page.page (c.min-count.result / 16) c.args.name.now c.in_ok-place.field-0 c.loop-page.invariant.origin c.loop-page.invariant.held c.in_ok-place.ensures.found node stands))
+    (found-since c.loop-page.page (c.min-count.result / 16) c.args.name.now c.in_ok-place.field-0
+    c.loop-page.invariant.origin c.loop-page.invariant.held c.in_ok-place.ensures.found node stands))
   where
     below : c.loop-page.page * c.geometry-sizes.result.block_size < c.args.body.now.size
     below = page_below c.args.body.now.size c.geometry-sizes.result.block_size c.div_ceil-pages.result c.loop-page.page
@@ -44,7 +45,8 @@ loop-page-preserved g c = record {
       (λ j. is_entry (g.S.Stake.origin c.args.s.now).sizes.block_size node c.args.name.now (64 * c.loop-page.page + j))
       (λ j. entry_inode (g.S.Stake.origin c.args.s.now).sizes.block_size node (64 * c.loop-page.page + j)) (c.min-count.result / 16) x in
       subst P c.in_default.is
-      (found-since c.loop-page.page (c.min-count.result / 16) c.args.name.now c.in_ok-place.field-0 c.loop-page.invariant.origin c.loop-page.invariant.held c.in_ok-place.ensures.found node stands));
+      (found-since c.loop-page.page (c.min-count.result / 16) c.args.name.now c.in_ok-place.field-0
+      c.loop-page.invariant.origin c.loop-page.invariant.held c.in_ok-place.ensures.found node stands));
   held = c.find_in_page.ensures.stake.lines ∙ c.loop-page.invariant.held;
   lends = c.find_in_page.ensures.stake.away;
   forced = c.find_in_page.ensures.stake.as_forced ∙ c.loop-page.invariant.forced;

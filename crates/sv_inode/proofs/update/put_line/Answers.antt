@@ -43,4 +43,5 @@ pub returns-clause-lines : goal.returns-clause-lines
 returns-clause-lines g c = same-put c.in_ok-buf.buf.block
     (refill (length c.in_ok-buf.buf.bytes) c.in_ok-buf.buf.bytes c.write_line.new.bytes)
     (c.bdwrite.ensures.held
-    ∙ ap (put c.in_ok-buf.buf.block (refill (length c.in_ok-buf.buf.bytes) c.in_ok-buf.buf.bytes c.write_line.new.bytes)) c.bread.ensures.held)
+    ∙ ap (put c.in_ok-buf.buf.block (refill (length c.in_ok-buf.buf.bytes) c.in_ok-buf.buf.bytes c.write_line.new.bytes))
+    c.bread.ensures.held)
