@@ -1,13 +1,12 @@
 ghost use Rattle.std.specs.Prelude.{◌≡◌, IfOk, OnOk, All, true, false};
 ghost use Rattle.sv_journal.specs.Allowed.{IsAllowed, is_purge, is_reply_of};
 
-use crate::word::number_of;
 use crate::{WriteFault, write};
 use std::alloc::{AllocError, Global};
 use std::test::Fail;
 use sv_dev::MemSink;
 use sv_form::{Bytes, Kind, Name};
-use sv_plain::{Entry, Mode, Need, Op, Reply};
+use sv_plain::{Entry, Mode, Need, Op, Reply, number_of};
 
 // What a run wrote that makes a directory and a file, writes, reads and looks at it.
 pub(crate) const WORKED: &[u8] = b"svj 1 1 100
