@@ -12,7 +12,7 @@ use Rattle.sv_form.specs.declared.geometry.Geometry.{Geometry}
 use Rattle.sv_form.specs.declared.page_path.PagePath.TheVariants.{Triple}
 use Rattle.sv_store.specs.Held.{Held, Lent, Origin, HoldsBlock, covers, in_ranges, rest}
 use Rattle.sv_store.specs.Calls.{CanPart, Parts}
-use Rattle.sv_store.specs.Numbered.{Numbers}
+use Rattle.sv_dev.specs.Tally.{Numbers}
 use Rattle.sv_store.proofs.Holding.{CanPart-range, IsSome-given, IsSome-kept, eqb_same, in_range-other, is_some-rest, is_some-chosen}
 use Rattle.sv_store.proofs.Holding.{none_from}
 use Rattle.sv_bmap.specs.Attach.{CanAttach}

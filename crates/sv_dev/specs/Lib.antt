@@ -1,4 +1,5 @@
 pub mod Causes
+pub mod HoldDiskSeen
 pub mod MemDisk
 pub mod MemDiskSeen
 pub mod MemHost
@@ -6,8 +7,8 @@ pub mod MemHostSeen
 pub mod MemSinkSeen
 pub mod MemSourceSeen
 pub mod MirrorDiskSeen
-pub mod Named
 pub mod Names
 pub mod RealHostSeen
+pub mod Tally
 pub mod Told
 pub mod Transfer

@@ -20,9 +20,9 @@ text_under host name = option_map (λ text. text.items) (get_by_text host.texts 
 
 abbrev pub counts_of : MemHost → HostCounts
 counts_of host = record {
-  fails = host.fails.items;
-  calls = host.calls;
-  faults = host.faults;
+  fails = host.tally.fails;
+  calls = host.tally.calls;
+  faults = host.tally.faults;
   disk_faults = host.disk_faults;
   source_faults = host.source_faults;
   sink_faults = host.sink_faults;

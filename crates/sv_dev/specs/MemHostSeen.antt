@@ -1,7 +1,7 @@
 -- The counts of a host in memory.
 use Rattle.std.specs.Prelude.{ℕ, Bool, List}
 use Rattle.sv_dev.specs.Causes.{counted}
-use Rattle.sv_dev.specs.Named.{is_named}
+use Rattle.sv_dev.specs.Tally.{is_named}
 
 pub record HostCounts : Type 0 where
   -- the numbers of the calls that fail

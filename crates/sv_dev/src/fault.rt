@@ -1,6 +1,6 @@
 // The answers of the outside other than success.
 ghost use Rattle.std.specs.Prelude.{◌≡◌};
-ghost use Rattle.sv_dev.specs.declared.fault.HostFault.TheVariants.{NoMemory};
+ghost use Rattle.sv_dev.specs.declared.fault.HostFault.TheVariants as host;
 
 use std::alloc::AllocError;
 
@@ -16,9 +16,17 @@ pub enum HostFault {
 }
 
 impl From<AllocError> for HostFault {
-    ghost from_gives = { λ _ e. e ≡ NoMemory };
+    ghost from_gives = { λ _ e. e ≡ host.NoMemory };
 
     fn from(_: AllocError) -> Self {
         HostFault::NoMemory
+    }
+}
+
+impl From<Failed> for HostFault {
+    ghost from_gives = { λ _ e. e ≡ host.Failed };
+
+    fn from(_: Failed) -> Self {
+        HostFault::Failed
     }
 }

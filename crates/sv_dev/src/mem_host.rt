@@ -6,8 +6,7 @@ ghost use Rattle.sv_dev.specs.Causes.{HasHostCause, counted, faults_after};
 ghost use Rattle.sv_dev.specs.MemDiskSeen.{untouched_disk};
 ghost use Rattle.sv_dev.specs.MemHostSeen.{fails_next};
 
-use crate::named::names;
-use crate::{Disk, Fail, Host, HostFault, MemDisk, MemSink, MemSource, NoMemory};
+use crate::{Disk, Fail, Host, HostFault, MemDisk, MemSink, MemSource, NoMemory, Tally};
 use std::alloc::Global;
 use std::collections::HashMap;
 use std::fs::File;
@@ -26,9 +25,7 @@ struct Image {
 pub struct MemHost {
     images: HashMap<String, Image>,
     texts: HashMap<String, Vec<u8>>,
-    fails: Vec<u64>,
-    calls: u64,
-    faults: u64,
+    tally: Tally,
     disk_faults: u64,
     source_faults: u64,
     sink_faults: u64,
@@ -67,9 +64,7 @@ impl MemHost {
         MemHost {
             images: HashMap::new(*fails.allocator()),
             texts: HashMap::new(*fails.allocator()),
-            fails,
-            calls: 0,
-            faults: 0,
+            tally: Tally::new(fails),
             disk_faults: 0,
             source_faults: 0,
             sink_faults: 0,
@@ -92,7 +87,7 @@ impl MemHost {
         ensures texts { SameTexts self.old self.new }
         ensures counts { counts_of self.new ≡ counts_of self.old }
     {
-        let key = String::from_str(*self.fails.allocator(), name)?;
+        let key = String::from_str(self.tally.allocator(), name)?;
         self.images.insert(key, Image { content, fails })?;
         Ok(())
     }
@@ -105,7 +100,7 @@ impl MemHost {
         ensures images { SameImages self.old self.new }
         ensures counts { counts_of self.new ≡ counts_of self.old }
     {
-        let key = String::from_str(*self.fails.allocator(), name)?;
+        let key = String::from_str(self.tally.allocator(), name)?;
         self.texts.insert(key, text)?;
         Ok(())
     }
@@ -138,7 +133,7 @@ impl MemHost {
         ensures err { OnErr result (SameImages self.old self.new) }
         ensures nothing_else { self.new ≡ record self.old { images = self.new.images } }
     {
-        let alloc = *self.fails.allocator();
+        let alloc = self.tally.allocator();
         let Some(image) = self.images.get_mut(name) else {
             let key = String::from_str(alloc, name)?;
             let fails = Vec::new(alloc);
@@ -206,15 +201,11 @@ impl Host for MemHost {
           faults = faults_after (counts_of self.old).faults result;
         } }
     {
-        self.calls = self.calls.saturating_add(1);
-        if names(self.fails.as_slice(), self.calls) {
-            self.faults = self.faults.saturating_add(1);
-            return Err(HostFault::Failed);
-        }
+        self.tally.next()?;
         match self.images.get(name) {
             Some(image) => image.disk(alloc),
             None => {
-                self.faults = self.faults.saturating_add(1);
+                self.tally.fail();
                 Err(HostFault::Failed)
             }
         }
@@ -243,11 +234,7 @@ impl Host for MemHost {
           faults = faults_after (counts_of self.old).faults result;
         } }
     {
-        self.calls = self.calls.saturating_add(1);
-        if names(self.fails.as_slice(), self.calls) {
-            self.faults = self.faults.saturating_add(1);
-            return Err(HostFault::Failed);
-        }
+        self.tally.next()?;
         let zeros = vec![in alloc; 0; length as usize]?;
         let content = zeros.to_vec(alloc)?;
         let fails = self.fails_of(alloc, name)?;
@@ -279,18 +266,14 @@ impl Host for MemHost {
         } }
     {
         self.asked = self.asked.saturating_add(1);
-        self.calls = self.calls.saturating_add(1);
-        if names(self.fails.as_slice(), self.calls) {
-            self.faults = self.faults.saturating_add(1);
-            return Err(HostFault::Failed);
-        }
+        self.tally.next()?;
         match self.texts.get(name) {
             Some(text) => {
                 let left = text.to_vec(alloc)?;
                 Ok(MemSource::new(left, Vec::new(alloc)))
             }
             None => {
-                self.faults = self.faults.saturating_add(1);
+                self.tally.fail();
                 Err(HostFault::Failed)
             }
         }
@@ -318,11 +301,7 @@ impl Host for MemHost {
           faults = faults_after (counts_of self.old).faults result;
         } }
     {
-        self.calls = self.calls.saturating_add(1);
-        if names(self.fails.as_slice(), self.calls) {
-            self.faults = self.faults.saturating_add(1);
-            return Err(HostFault::Failed);
-        }
+        self.tally.next()?;
         self.put_text(name, Vec::new(alloc))?;
         Ok(MemSink::new(Vec::new(alloc)))
     }
@@ -351,11 +330,7 @@ impl Host for MemHost {
         } }
     {
         self.disk_faults = self.disk_faults.saturating_add(disk.faults());
-        self.calls = self.calls.saturating_add(1);
-        if names(self.fails.as_slice(), self.calls) {
-            self.faults = self.faults.saturating_add(1);
-            return Err(HostFault::Failed);
-        }
+        self.tally.next()?;
         self.put_content(name, disk.into_content())?;
         Ok(())
     }
@@ -383,11 +358,7 @@ impl Host for MemHost {
         } }
     {
         self.sink_faults = self.sink_faults.saturating_add(sink.faults());
-        self.calls = self.calls.saturating_add(1);
-        if names(self.fails.as_slice(), self.calls) {
-            self.faults = self.faults.saturating_add(1);
-            return Err(HostFault::Failed);
-        }
+        self.tally.next()?;
         self.put_text(name, sink.into_written())?;
         Ok(())
     }

@@ -1,11 +1,10 @@
 // The sink in memory.
 ghost use Rattle.std.specs.Prelude.{◌≡◌, ◌⊎◌, ◌<◌, ◌+◌, [], Some, length, OnOk, OnErr, IsErr, IsTrue};
 ghost use Rattle.sv_dev.specs.Causes.{HasCause, counted};
-ghost use Rattle.sv_dev.specs.Named.{is_named};
+ghost use Rattle.sv_dev.specs.Tally.{is_named};
 ghost use Rattle.sv_dev.specs.Told.{Writes};
 
-use crate::named::names;
-use crate::{Failed, Sink};
+use crate::{Failed, Sink, Tally};
 use std::marker::Model;
 
 /// A sink that holds in memory all bytes that it took, and some of whose calls fail. After `Failed` it holds none
@@ -13,9 +12,7 @@ use std::marker::Model;
 #[derive(Drop)]
 pub struct MemSink {
     written: Vec<u8>,
-    fails: Vec<u64>,
-    calls: u64,
-    faults: u64,
+    tally: Tally,
 }
 
 impl Model for MemSink {
@@ -27,9 +24,9 @@ impl Model for MemSink {
     ghost view = { λ s. record {
       written = s.written.items;
       room = vec_capacity s.written;
-      fails = s.fails.items;
-      calls = s.calls;
-      faults = s.faults;
+      fails = s.tally.fails;
+      calls = s.tally.calls;
+      faults = s.tally.faults;
     } };
 }
 
@@ -44,9 +41,7 @@ impl MemSink {
         let written = Vec::new(*fails.allocator());
         MemSink {
             written,
-            fails,
-            calls: 0,
-            faults: 0,
+            tally: Tally::new(fails),
         }
     }
 
@@ -60,7 +55,7 @@ impl MemSink {
     pub(crate) fn faults(&self) -> u64
         ensures { result ≡ self.now.faults }
     {
-        self.faults
+        self.tally.faults()
     }
 
     /// All bytes that it took.
@@ -90,15 +85,11 @@ impl Sink for MemSink {
         ensures calls { self.new.calls ≡ counted self.old.calls 1 }
         ensures fails { self.new.fails ≡ self.old.fails }
     {
-        self.calls = self.calls.saturating_add(1);
-        if names(self.fails.as_slice(), self.calls) {
-            self.faults = self.faults.saturating_add(1);
-            return Err(Failed);
-        }
+        self.tally.next()?;
         match self.written.extend_from_slice(from) {
             Ok(()) => Ok(()),
             Err(_) => {
-                self.faults = self.faults.saturating_add(1);
+                self.tally.fail();
                 Err(Failed)
             }
         }

@@ -1,11 +1,10 @@
 // The source in memory.
 ghost use Rattle.std.specs.Prelude.{◌≡◌, ◌≤◌, ◌<◌, ℕ, [], Some, length, min, take, drop, IfOk, OnOk, OnErr, IsErr, IsTrue};
 ghost use Rattle.sv_dev.specs.Causes.{HasCause, counted};
-ghost use Rattle.sv_dev.specs.Named.{is_named};
+ghost use Rattle.sv_dev.specs.Tally.{is_named};
 ghost use Rattle.sv_dev.specs.Told.{Takes, IsAtEnd};
 
-use crate::named::names;
-use crate::{Failed, Source};
+use crate::{Failed, Source, Tally};
 use std::marker::Model;
 
 /// A source over bytes in memory, some of whose calls fail. A call gives as many bytes as the slice and what is left
@@ -14,9 +13,7 @@ use std::marker::Model;
 pub struct MemSource {
     bytes: Vec<u8>,
     given: usize,
-    fails: Vec<u64>,
-    calls: u64,
-    faults: u64,
+    tally: Tally,
 }
 
 impl Model for MemSource {
@@ -27,9 +24,9 @@ impl Model for MemSource {
 
     ghost view = { λ s. record {
       left = drop s.given s.bytes.items;
-      fails = s.fails.items;
-      calls = s.calls;
-      faults = s.faults;
+      fails = s.tally.fails;
+      calls = s.tally.calls;
+      faults = s.tally.faults;
     } };
 
     ghost invariant = { λ s. s.given ≤ length s.bytes.items };
@@ -43,9 +40,7 @@ impl MemSource {
         MemSource {
             bytes: left,
             given: 0,
-            fails,
-            calls: 0,
-            faults: 0,
+            tally: Tally::new(fails),
         }
     }
 
@@ -53,7 +48,7 @@ impl MemSource {
     pub(crate) fn faults(&self) -> u64
         ensures { result ≡ self.now.faults }
     {
-        self.faults
+        self.tally.faults()
     }
 }
 
@@ -77,11 +72,7 @@ impl Source for MemSource {
         ensures calls { self.new.calls ≡ counted self.old.calls 1 }
         ensures fails { self.new.fails ≡ self.old.fails }
     {
-        self.calls = self.calls.saturating_add(1);
-        if names(self.fails.as_slice(), self.calls) {
-            self.faults = self.faults.saturating_add(1);
-            return Err(Failed);
-        }
+        self.tally.next()?;
         let left = &self.bytes[self.given..];
         let count = left.len().min(into.len());
         into[..count].copy_from_slice(&left[..count]);

@@ -6,5 +6,4 @@ pub mod Content
 pub mod Frames
 pub mod Held
 pub mod Loan
-pub mod Numbered
 pub mod OwnBlock

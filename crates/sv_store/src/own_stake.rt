@@ -1,10 +1,9 @@
 // A stake whose blocks are in memory.
 ghost use Rattle.std.specs.Prelude.{◌≡◌, ◌≤◌, ◌==◌, ◌||◌, ◌+◌, ◌*◌, ◌<◌, ◌^◌, ℕ, true, false, IfOk, OnErr, IsErrOf};
-ghost use Rattle.std.specs.List.{list_any};
 ghost use Rattle.sv_dev.specs.Causes.{counted};
 ghost use Rattle.sv_form.specs.Geometry.{IsGeometry};
 ghost use Rattle.sv_store.specs.Causes.{HasFault};
-ghost use Rattle.sv_store.specs.Numbered.{Numbers, IsNumbered, IsQuiet};
+ghost use Rattle.sv_dev.specs.Tally.{Numbers, IsNumbered, IsQuiet};
 ghost use Rattle.sv_store.specs.OwnBlock.{held_of, lent_of, IsSound};
 
 use crate::own_block::{
@@ -14,72 +13,9 @@ use crate::own_cut::cut_off;
 use crate::{Buf, LineRange, NoMemory, Refusal, Stake};
 use std::alloc::{AllocError, Global};
 use std::collections::LinkedList;
-use std::marker::Model;
 use std::sync::Wait;
+use sv_dev::Tally;
 use sv_form::Geometry;
-
-// Which calls fail, by their number, and how many calls there were and how many of them failed.
-#[derive(Drop)]
-struct Tally {
-    fails: Vec<u64>,
-    calls: u64,
-    faults: u64,
-}
-
-impl Model for Tally {
-    ghost use Rattle.sv_store.specs.Numbered.{Numbers};
-
-    ghost Value = { Numbers };
-
-    ghost view = { λ t. record { fails = t.fails.items; calls = t.calls; faults = t.faults } };
-}
-
-// Whether the list has this number.
-fn is_named(fails: &[u64], number: u64) -> bool
-    ensures { result ≡ list_any (λ named. named == number) fails.now }
-{
-    fails.iter().any(|named| *named == number)
-}
-
-impl Tally {
-    // One call more: it fails if its number is among those that are to fail.
-    fn next(&mut self) -> Result<(), Refusal>
-        ensures cause { HasFault self.old.faults self.new.faults result }
-        ensures named { IsNumbered self.old self.new result }
-    {
-        self.calls = self.calls.saturating_add(1);
-        if is_named(self.fails.as_slice(), self.calls) {
-            self.faults = self.faults.saturating_add(1);
-            return Err(Refusal::Fault);
-        }
-        Ok(())
-    }
-
-    // A tally of the same list, of no call yet.
-    fn anew(&self, alloc: Global) -> Result<Tally, NoMemory>
-        ensures { IfOk result (λ tally. tally ≡ record { fails = self.now.fails; calls = 0; faults = 0 }) }
-    {
-        Ok(Tally {
-            fails: Vec::from_slice(alloc, self.fails.as_slice())?,
-            calls: 0,
-            faults: 0,
-        })
-    }
-
-    // How many transfers have failed.
-    fn count(&self) -> u64
-        ensures { result ≡ self.now.faults }
-    {
-        self.faults
-    }
-
-    // The faults of another tally are counted here.
-    fn add(&mut self, faults: u64)
-        ensures { self.new ≡ record self.old { faults = counted self.old.faults faults } }
-    {
-        self.faults = self.faults.saturating_add(faults);
-    }
-}
 
 /// What is seen of a stake whose calls are numbered.
 pub trait Numbered {
@@ -132,11 +68,7 @@ impl OwnStake {
         Ok(OwnStake {
             sizes,
             blocks,
-            tally: Tally {
-                fails,
-                calls: 0,
-                faults: 0,
-            },
+            tally: Tally::new(fails),
             forced: false,
         })
     }
@@ -184,7 +116,7 @@ impl Stake for OwnStake {
     ghost origin = { λ s. record { id = s.tally.fails; sizes = s.sizes } };
 
     fn geometry(&self) -> Geometry {
-        let _count = self.tally.count();
+        let _count = self.tally.faults();
         self.sizes
     }
 
@@ -274,7 +206,8 @@ impl Stake for OwnStake {
         self.forced = true;
         let b = buf.block();
         put_back(&mut self.blocks, self.sizes, b, buf.into_bytes());
-        self.tally.next()
+        self.tally.next()?;
+        Ok(())
     }
 
     fn part(&mut self, alloc: Global, lines: &[LineRange]) -> Result<Self, Refusal>
@@ -328,7 +261,7 @@ impl Stake for OwnStake {
             forced,
         } = other;
         join(&mut self.blocks, self.sizes, blocks);
-        self.tally.add(tally.faults);
+        self.tally.count(tally.faults());
         self.forced = self.forced | forced;
     }
 
