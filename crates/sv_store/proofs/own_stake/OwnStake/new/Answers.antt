@@ -1,5 +1,5 @@
 -- The list has all lines of all blocks.
-use Rattle.std.proofs.Common.{◌≡◌, length, map, refl, sym, ap, ◌∙◌, subst}
+use Rattle.std.proofs.Common.{◌≡◌, length, map, sym, ap, ◌∙◌, subst}
 use Rattle.std.proofs.lemmas.List.{length-map}
 use Rattle.std.proofs.lemmas.List.Elements.{All-map}
 use Rattle.sv_store.specs.OwnBlock.{held_of, lent_of, IsSound}
@@ -13,7 +13,7 @@ invariant_of-result c = record {
       subst (IsSound c.args.sizes) (sym c.in_ok-blocks.ensures)
       (sound-whole c.args.sizes c.requires.sizes (map (λ bytes. bytes.items) c.args.content.items) (length-map c.args.content.items (λ bytes. bytes.items) ∙ c.requires.blocks)
       (All-map (λ x. length x ≡ c.args.sizes.block_size) (λ bytes. bytes.items) c.args.content.items c.requires.bytes));
-  quiet = λ _. refl;
+  quiet = λ _. ap (λ t. t.faults) c.new.ensures;
 }
 
 pub returns-clause-held : goal.returns-clause-held
