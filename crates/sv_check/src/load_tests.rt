@@ -1,38 +1,14 @@
 // A worked row of the tree of an image.
 ghost use Rattle.sv_check.specs.Sound.{IsMountedFrom};
 
-use crate::tests::says_fault;
+use crate::test_images::{WITH_HOLE, disk_that_fails, disk_with, says_fault};
 use crate::{LoadFault, check, load};
-use std::alloc::{AllocError, Global};
+use std::alloc::Global;
 use std::process::Abort;
 use std::test::Fail as Failure;
-use sv_dev::{Access, Fail, MemDisk};
+use sv_dev::{Access, MemDisk};
 use sv_form::Mounted;
 use sv_plain::listing;
-
-// An image of 7 blocks and 16 inodes, all of whose data blocks are used. Inode 2 is the root, in block 3. Inode 3 is a file
-// of 10,246 bytes: page 0 is block 4, and page 10 is block 6, which block 5 names.
-fn image_with_hole(alloc: Global) -> Result<Vec<u8>, AllocError> {
-    let mut image = vec![in alloc; 0; 7_168]?;
-    put(&mut image, 512, b"SV5F\x02\0\x03\0\x07\0\0\0\x01\0\0\0");
-    put(&mut image, 2_112, b"\xed\x41\x02\0\0\0\0\0\x30\0\0\0\x03");
-    put(&mut image, 2_176, b"\xa4\x81\x01\0\0\0\0\0\x06\x28\0\0\x04");
-    put(&mut image, 2_218, b"\x05");
-    put(&mut image, 3_072, b"\x02\0.");
-    put(&mut image, 3_088, b"\x02\0..");
-    put(&mut image, 3_104, b"\x03\0a");
-    put(&mut image, 5_120, b"\x06");
-    put(&mut image, 6_144, b"hello\n");
-    Ok(image)
-}
-
-fn put(image: &mut Vec<u8>, at: usize, bytes: &[u8]) {
-    for (k, byte) in bytes.iter().enumerate() {
-        if let Some(place) = image.get_mut(at.saturating_add(k)) {
-            *place = *byte;
-        }
-    }
-}
 
 // The text of the tree, or None where the disk failed.
 fn tree_text(alloc: Global, disk: &mut MemDisk) -> Result<Option<Vec<u8>>, Failure> {
@@ -58,7 +34,7 @@ fn loaded_text(
 
 // Whether the text of the tree is this, and these places are read in this order.
 fn loads_exactly(alloc: Global, lines: &[u8], log: &[Access]) -> Result<bool, Failure> {
-    let mut disk = MemDisk::new(image_with_hole(alloc)?, Vec::new(alloc));
+    let mut disk = disk_with(alloc, WITH_HOLE, &[])?;
     let is_text = has_text(alloc, &mut disk, lines)?;
     Ok(is_text & (disk.log() == log))
 }
@@ -70,8 +46,7 @@ fn has_text(alloc: Global, disk: &mut MemDisk, lines: &[u8]) -> Result<bool, Fai
 
 // Whether there is no text, where the k-th read fails.
 fn is_stopped(alloc: Global, k: u64) -> Result<bool, Failure> {
-    let fails = vec![in alloc; Fail::Read(k)]?;
-    let mut disk = MemDisk::new(image_with_hole(alloc)?, fails);
+    let mut disk = disk_that_fails(alloc, WITH_HOLE, k)?;
     Ok(tree_text(alloc, &mut disk)?.is_none())
 }
 
@@ -108,7 +83,7 @@ fn tree_of_an_image(rt: HostRuntime) -> Result<(), Failure> {
 fn faults_of_the_check(rt: HostRuntime) -> Result<(), Failure> {
     let alloc = rt.alloc();
     for k in 1..=7 {
-        assert!(rt; says_fault(alloc, image_with_hole(alloc)?, k)?);
+        assert!(rt; says_fault(alloc, WITH_HOLE, k)?);
     }
     Ok(())
 }
