@@ -219,10 +219,15 @@ fn writes_of(log: &[Access]) -> usize {
         .count()
 }
 
-// Whether the making tells that the disk failed, where this call fails.
-fn says_fault(alloc: Global, fail: Fail) -> Result<bool, AllocError> {
+// A disk of four blocks, in which all bits are set, where this call fails.
+fn failing_disk(alloc: Global, fail: Fail) -> Result<MemDisk, AllocError> {
     let fails = vec![in alloc; fail]?;
     let content = vec![in alloc; 0xff; 4_096]?;
-    let mut disk = MemDisk::new(content, fails);
+    Ok(MemDisk::new(content, fails))
+}
+
+// Whether the making tells that the disk failed, where this call fails.
+fn says_fault(alloc: Global, fail: Fail) -> Result<bool, AllocError> {
+    let mut disk = failing_disk(alloc, fail)?;
     Ok(mkfs(&mut disk, 4, 2) == Err(MakeFault::Fault))
 }
