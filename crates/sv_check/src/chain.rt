@@ -36,7 +36,7 @@ fn copy_numbers(alloc: Global, list: &LinkBlock) -> Result<Vec<u32>, NoMemory>
 }
 
 /// Whether each block was met, in the walk or in the chain; and the number at which the chain stopped.
-#[derive(Debug, Drop)]
+#[derive(Drop)]
 pub(crate) struct MetBlocks {
     pub(crate) met: Vec<bool>,
     pub(crate) bad: u32,

@@ -27,6 +27,7 @@ use crate::links::first_mislinked;
 use crate::met::Met;
 use crate::pages::Directory;
 use crate::standings::Standings;
+use crate::walk::new_block;
 use crate::whole_walk::{BlockWalk, walk_blocks};
 use crate::{CheckFault, read_sizes};
 use std::alloc::Global;
@@ -46,7 +47,7 @@ pub fn check<D: Disk>(alloc: Global, disk: &mut D) -> Result<Mounted, CheckFault
 {
     let head = read_sizes(disk)?;
     let sizes = head.geometry();
-    let mut block = vec![in alloc; 0; sizes.block_size as usize]?;
+    let mut block = new_block(alloc, &sizes)?;
     let shown = check_sized(alloc, disk, &sizes, &head, &mut block)?;
     Ok(Mounted {
         geometry: sizes,

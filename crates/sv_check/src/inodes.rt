@@ -23,7 +23,7 @@ pub(crate) const ROOT: u16 = 2;
 
 /// What the inode list shows: whether each inode is used, the first inode that fails the condition Kind, and where there
 /// is none, the first that fails the condition Size, and whether inode 2, the root, is a directory; and the links of each.
-#[derive(Debug, Drop)]
+#[derive(Drop)]
 pub(crate) struct InodeList {
     pub(crate) used: Vec<bool>,
     pub(crate) kind: Option<u16>,

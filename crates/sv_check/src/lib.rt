@@ -55,4 +55,6 @@ mod load_tests;
 #[cfg(test)]
 mod making_tests;
 #[cfg(test)]
+mod test_images;
+#[cfg(test)]
 mod tests;

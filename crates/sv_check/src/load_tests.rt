@@ -1,104 +1,81 @@
 // A worked row of the tree of an image.
 ghost use Rattle.sv_check.specs.Sound.{IsMountedFrom};
 
-use crate::tests::says_fault;
+use crate::test_images::{WITH_HOLE, disk_that_fails, disk_with, says_fault};
 use crate::{LoadFault, check, load};
 use std::alloc::{AllocError, Global};
 use std::process::Abort;
 use std::test::Fail as Failure;
-use sv_dev::{Access, Fail, MemDisk};
+use sv_dev::{Access, MemDisk};
 use sv_form::Mounted;
-use sv_plain::listing;
+use sv_plain::{Fs, listing};
 
-// An image of 7 blocks and 16 inodes, all of whose data blocks are used. Inode 2 is the root, in block 3. Inode 3 is a file
-// of 10,246 bytes: page 0 is block 4, and page 10 is block 6, which block 5 names.
-fn image_with_hole(alloc: Global) -> Result<Vec<u8>, AllocError> {
-    let mut image = vec![in alloc; 0; 7_168]?;
-    put(&mut image, 512, b"SV5F\x02\0\x03\0\x07\0\0\0\x01\0\0\0");
-    put(&mut image, 2_112, b"\xed\x41\x02\0\0\0\0\0\x30\0\0\0\x03");
-    put(&mut image, 2_176, b"\xa4\x81\x01\0\0\0\0\0\x06\x28\0\0\x04");
-    put(&mut image, 2_218, b"\x05");
-    put(&mut image, 3_072, b"\x02\0.");
-    put(&mut image, 3_088, b"\x02\0..");
-    put(&mut image, 3_104, b"\x03\0a");
-    put(&mut image, 5_120, b"\x06");
-    put(&mut image, 6_144, b"hello\n");
-    Ok(image)
-}
-
-fn put(image: &mut Vec<u8>, at: usize, bytes: &[u8]) {
-    for (k, byte) in bytes.iter().enumerate() {
-        if let Some(place) = image.get_mut(at.saturating_add(k)) {
-            *place = *byte;
-        }
-    }
-}
-
-// The text of the tree, or None where the disk failed.
-fn tree_text(alloc: Global, disk: &mut MemDisk) -> Result<Option<Vec<u8>>, Failure> {
+// The text of the tree, or why there is none; None where the check finds the image unsound or fails.
+fn tree_text(alloc: Global, disk: &mut MemDisk) -> Option<Result<Vec<u8>, LoadFault>> {
     match check(alloc, disk) {
-        Ok(mounted) => loaded_text(alloc, disk, &mounted),
-        Err(_) => Err("unsound")?,
+        Ok(mounted) => Some(loaded_text(alloc, disk, &mounted)),
+        Err(_) => None,
     }
 }
 
-fn loaded_text(
-    alloc: Global,
-    disk: &mut MemDisk,
-    mounted: &Mounted,
-) -> Result<Option<Vec<u8>>, Failure>
+fn loaded_text(alloc: Global, disk: &mut MemDisk, mounted: &Mounted) -> Result<Vec<u8>, LoadFault>
     requires { IsMountedFrom disk.old.content mounted.now }
 {
-    match load(alloc, disk, mounted) {
-        Ok(fs) => Ok(Some(listing(alloc, &fs)?)),
-        Err(LoadFault::Fault) => Ok(None),
-        Err(LoadFault::NoMemory) => Err("no memory")?,
-    }
+    let fs = load(alloc, disk, mounted)?;
+    text_of(alloc, &fs)
+}
+
+fn text_of(alloc: Global, fs: &Fs) -> Result<Vec<u8>, LoadFault> {
+    Ok(listing(alloc, fs)?)
 }
 
 // Whether the text of the tree is this, and these places are read in this order.
-fn loads_exactly(alloc: Global, lines: &[u8], log: &[Access]) -> Result<bool, Failure> {
-    let mut disk = MemDisk::new(image_with_hole(alloc)?, Vec::new(alloc));
-    let is_text = has_text(alloc, &mut disk, lines)?;
+fn loads_exactly(alloc: Global, lines: &[u8], log: &[Access]) -> Result<bool, AllocError> {
+    let mut disk = disk_with(alloc, WITH_HOLE, &[])?;
+    let is_text = has_text(alloc, &mut disk, lines);
     Ok(is_text & (disk.log() == log))
 }
 
-fn has_text(alloc: Global, disk: &mut MemDisk, lines: &[u8]) -> Result<bool, Failure> {
-    let text = tree_text(alloc, disk)?;
-    Ok(text.is_some_and(|t| t.as_slice() == lines))
+fn has_text(alloc: Global, disk: &mut MemDisk, lines: &[u8]) -> bool {
+    match tree_text(alloc, disk) {
+        Some(Ok(text)) => text.as_slice() == lines,
+        _ => false,
+    }
 }
 
-// Whether there is no text, where the k-th read fails.
-fn is_stopped(alloc: Global, k: u64) -> Result<bool, Failure> {
-    let fails = vec![in alloc; Fail::Read(k)]?;
-    let mut disk = MemDisk::new(image_with_hole(alloc)?, fails);
-    Ok(tree_text(alloc, &mut disk)?.is_none())
+// Whether the disk failed after the check, where the k-th read fails.
+fn is_stopped(alloc: Global, k: u64) -> Result<bool, AllocError> {
+    let mut disk = disk_that_fails(alloc, WITH_HOLE, k)?;
+    let outcome = tree_text(alloc, &mut disk);
+    Ok(matches!(outcome, Some(Err(LoadFault::Fault))))
 }
 
-// The text, and that each block is read once after the seven reads of the check: the inode list, the root's page, and of
-// the file a page, the indirect block and the page below it. Each of these reads may fail.
+const LINES: &[u8] =
+    b"inode 2 d 755 links 2 size 48 pages 1\ninode 3 f 644 links 1 size 10246 pages 2\n";
+
+// Each block is read once after the seven reads of the check: the inode list, the root's page, and of the file a page, the
+// indirect block and the page below it.
+const READS: &[Access] = &[
+    Access::Read(512),
+    Access::Read(2_048),
+    Access::Read(2_048),
+    Access::Read(3_072),
+    Access::Read(5_120),
+    Access::Read(6_144),
+    Access::Read(3_072),
+    Access::Read(2_048),
+    Access::Read(3_072),
+    Access::Read(4_096),
+    Access::Read(5_120),
+    Access::Read(6_144),
+];
+
+// The text and the reads. Each read after those of the check may fail.
 #[test]
 fn tree_of_an_image(rt: HostRuntime) -> Result<(), Failure> {
-    let alloc = rt.alloc();
-    let lines =
-        b"inode 2 d 755 links 2 size 48 pages 1\ninode 3 f 644 links 1 size 10246 pages 2\n";
-    let log = [
-        Access::Read(512),
-        Access::Read(2_048),
-        Access::Read(2_048),
-        Access::Read(3_072),
-        Access::Read(5_120),
-        Access::Read(6_144),
-        Access::Read(3_072),
-        Access::Read(2_048),
-        Access::Read(3_072),
-        Access::Read(4_096),
-        Access::Read(5_120),
-        Access::Read(6_144),
-    ];
-    assert!(rt; loads_exactly(alloc, lines, &log)?);
+    assert!(rt; loads_exactly(rt.alloc(), LINES, READS)?);
     for k in 8..=12 {
-        assert!(rt; is_stopped(alloc, k)?);
+        assert!(rt; is_stopped(rt.alloc(), k)?);
     }
     Ok(())
 }
@@ -106,9 +83,8 @@ fn tree_of_an_image(rt: HostRuntime) -> Result<(), Failure> {
 // Each of the seven reads of the check may fail, that of the indirect block among them.
 #[test]
 fn faults_of_the_check(rt: HostRuntime) -> Result<(), Failure> {
-    let alloc = rt.alloc();
     for k in 1..=7 {
-        assert!(rt; says_fault(alloc, image_with_hole(alloc)?, k)?);
+        assert!(rt; says_fault(rt.alloc(), WITH_HOLE, k)?);
     }
     Ok(())
 }

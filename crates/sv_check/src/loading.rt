@@ -16,7 +16,7 @@ ghost use Rattle.sv_check.specs.Walk.{reached, reached_under};
 
 use crate::inodes::{read_line, turn_to_inode};
 use crate::read_block;
-use crate::walk::{first_page, height_of, span};
+use crate::walk::{first_page, height_of, new_block, span};
 use std::alloc::{AllocError, Global};
 use sv_dev::{Disk, Failed};
 use sv_form::{ADDRESSES, Bytes, DiskInode, Geometry, InodeBody, Mounted, number24, number32};
@@ -63,10 +63,28 @@ pub fn load<D: Disk>(alloc: Global, disk: &mut D, mounted: &Mounted) -> Result<F
     ensures content { D.content disk.new ≡ D.content disk.old }
     ensures faults { D.faults disk.old ≤ D.faults disk.new }
 {
-    let mut block = vec![in alloc; 0; mounted.geometry.block_size as usize]?;
     let mut fs = Fs::new(alloc, mounted.geometry)?;
-    load_nodes(alloc, disk, &mounted.geometry, &mut fs, &mut block)?;
+    load_tree(alloc, disk, &mounted.geometry, &mut fs)?;
     Ok(fs)
+}
+
+// Puts in the node of each used inode, with memory for one block.
+fn load_tree<D: Disk>(
+    alloc: Global,
+    disk: &mut D,
+    sizes: &Geometry,
+    fs: &mut Fs,
+) -> Result<(), LoadFault>
+    requires walked { IsWalked (D.content disk.old) }
+    requires sizes { sizes.now ≡ geometry_of (D.content disk.old) }
+    requires empty { fs.old ≡ empty_fs sizes.now }
+    ensures tree { OnOk result (fs.new ≡ loaded (D.content disk.old)) }
+    ensures err { IfErr result (Tells (Rose (D.faults disk.old) (D.faults disk.new)) ⊤) }
+    ensures content { D.content disk.new ≡ D.content disk.old }
+    ensures faults { D.faults disk.old ≤ D.faults disk.new }
+{
+    let mut block = new_block(alloc, sizes)?;
+    load_nodes(alloc, disk, sizes, fs, &mut block)
 }
 
 /// Puts in the node of each used inode, ascending. The slice has a block's length.
@@ -229,7 +247,7 @@ fn block_of_disk<D: Disk>(
     ensures content { D.content disk.new ≡ D.content disk.old }
     ensures faults { D.faults disk.old ≤ D.faults disk.new }
 {
-    let mut block = vec![in alloc; 0; sizes.block_size as usize]?;
+    let mut block = new_block(alloc, sizes)?;
     read_block(disk, sizes, number, &mut block)?;
     Ok(block)
 }

@@ -2,7 +2,7 @@
 ghost use Rattle.std.specs.Prelude.{◌≤◌, ℕ, List};
 ghost use Rattle.sv_check.specs.Sound.{IsMountedFrom};
 
-use crate::tests::made_image;
+use crate::test_images::{MADE, bytes_of};
 use crate::{MakeFault, check, free_count, mkfs, used_count};
 use std::alloc::{AllocError, Global};
 use std::process::Abort;
@@ -11,10 +11,8 @@ use sv_dev::{Access, Disk, Fail, MemDisk};
 use sv_form::Mounted;
 
 // A disk of so many blocks, in which all bits are set.
-fn set_disk(alloc: Global, blocks: usize) -> Result<MemDisk, AllocError>
-    requires { blocks ≤ 65537 }
-{
-    let content = vec![in alloc; 0xff; blocks * 1_024]?;
+fn set_disk(alloc: Global, blocks: usize) -> Result<MemDisk, AllocError> {
+    let content = vec![in alloc; 0xff; blocks.saturating_mul(1_024)]?;
     Ok(MemDisk::new(content, Vec::new(alloc)))
 }
 
@@ -75,10 +73,14 @@ fn whole_image(rt: HostRuntime) -> Result<(), Failure> {
 }
 
 fn makes_image(alloc: Global) -> Result<bool, AllocError> {
-    let image = made_image(alloc)?;
     let mut disk = set_disk(alloc, 64)?;
     let is_made = mkfs(&mut disk, 64, 32).is_ok();
-    Ok(is_made & is_image(&mut disk, &image))
+    Ok(is_made & is_made_image(alloc, &mut disk)?)
+}
+
+fn is_made_image(alloc: Global, disk: &mut MemDisk) -> Result<bool, AllocError> {
+    let image = bytes_of(alloc, MADE)?;
+    Ok(is_image(disk, &image))
 }
 
 // The blocks, free blocks, inodes and used inodes of the image that was made on a disk of so many blocks.
@@ -118,35 +120,46 @@ fn counts_of(mounted: &Mounted) -> (u32, u32, u32, u32)
 }
 
 // Whether the numbers are refused on a disk of so many blocks.
-fn is_refused(alloc: Global, on: usize, blocks: u32, inodes: u32) -> Result<bool, AllocError>
-    requires { on ≤ 65537 }
-{
+fn is_refused(alloc: Global, on: usize, blocks: u32, inodes: u32) -> Result<bool, AllocError> {
     let mut disk = set_disk(alloc, on)?;
     Ok(mkfs(&mut disk, blocks, inodes) == Err(MakeFault::Limits))
 }
 
-// The check finds each image that is made sound, also where chains are long and where no block is free.
+// How many blocks and inodes an image is made with, and the counts of what is made: also where chains are long and where no
+// block is free.
+const SOUND: &[(u16, u32, (u32, u32, u32, u32))] = &[
+    (64, 32, (64, 59, 32, 1)),
+    (4, 2, (4, 0, 16, 1)),
+    (8, 80, (8, 0, 80, 1)),
+    (8, 16, (8, 4, 16, 1)),
+    (55, 32, (55, 50, 32, 1)),
+    (256, 200, (256, 240, 208, 1)),
+];
+
+// The check finds each image that is made sound.
 #[test]
 fn sound_images(rt: HostRuntime) -> Result<(), Failure> {
-    let alloc = rt.alloc();
-    assert_eq!(rt; counts(alloc, 64, 32)?, (64, 59, 32, 1));
-    assert_eq!(rt; counts(alloc, 4, 2)?, (4, 0, 16, 1));
-    assert_eq!(rt; counts(alloc, 8, 80)?, (8, 0, 80, 1));
-    assert_eq!(rt; counts(alloc, 8, 16)?, (8, 4, 16, 1));
-    assert_eq!(rt; counts(alloc, 55, 32)?, (55, 50, 32, 1));
-    assert_eq!(rt; counts(alloc, 256, 200)?, (256, 240, 208, 1));
+    for (blocks, inodes, made) in SOUND {
+        assert_eq!(rt; counts(rt.alloc(), *blocks, *inodes)?, *made);
+    }
     Ok(())
 }
 
-// Too few blocks and too many, a first data block that is none of the image, too few inodes, and a disk of another length.
+// Blocks of a disk, and numbers of blocks and inodes that are refused there: too few blocks and too many, a first data block
+// that is none of the image, too few inodes, and a disk of another length.
+const REFUSED: &[(usize, u32, u32)] = &[
+    (3, 3, 2),
+    (65_537, 65_537, 2),
+    (8, 8, 81),
+    (8, 8, 1),
+    (5, 4, 2),
+];
+
 #[test]
 fn limits(rt: HostRuntime) -> Result<(), Failure> {
-    let alloc = rt.alloc();
-    assert!(rt; is_refused(alloc, 3, 3, 2)?);
-    assert!(rt; is_refused(alloc, 65_537, 65_537, 2)?);
-    assert!(rt; is_refused(alloc, 8, 8, 81)?);
-    assert!(rt; is_refused(alloc, 8, 8, 1)?);
-    assert!(rt; is_refused(alloc, 5, 4, 2)?);
+    for (on, blocks, inodes) in REFUSED {
+        assert!(rt; is_refused(rt.alloc(), *on, *blocks, *inodes)?);
+    }
     Ok(())
 }
 
@@ -206,10 +219,15 @@ fn writes_of(log: &[Access]) -> usize {
         .count()
 }
 
-// Whether the making tells that the disk failed, where this call fails.
-fn says_fault(alloc: Global, fail: Fail) -> Result<bool, AllocError> {
+// A disk of four blocks, in which all bits are set, where this call fails.
+fn failing_disk(alloc: Global, fail: Fail) -> Result<MemDisk, AllocError> {
     let fails = vec![in alloc; fail]?;
     let content = vec![in alloc; 0xff; 4_096]?;
-    let mut disk = MemDisk::new(content, fails);
+    Ok(MemDisk::new(content, fails))
+}
+
+// Whether the making tells that the disk failed, where this call fails.
+fn says_fault(alloc: Global, fail: Fail) -> Result<bool, AllocError> {
+    let mut disk = failing_disk(alloc, fail)?;
     Ok(mkfs(&mut disk, 4, 2) == Err(MakeFault::Fault))
 }

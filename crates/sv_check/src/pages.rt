@@ -11,7 +11,7 @@ pub struct PageBlock {
 }
 
 /// A directory: its inode's number, its size in bytes, and its pages in ascending order.
-#[derive(Debug, Drop)]
+#[derive(Drop)]
 pub(crate) struct Directory {
     pub(crate) inode: u16,
     pub(crate) size: u32,

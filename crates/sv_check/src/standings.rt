@@ -13,7 +13,7 @@ use sv_form::{ENTRY_SIZE, Geometry, NoMemory, number16};
 /// What the entries of directories say of one inode: how many name it, and how many of these are neither entry 0 nor
 /// entry 1 of their directory, both counted up to 65,535, and the directory of the last of these. Then, of a directory,
 /// the inode that its `..` names, 0 where entry 1 has another name, and whether its entry 0 is `.` and names it.
-#[derive(Clone, Copy, Debug, PartialEq, Eq)]
+#[derive(Clone, Copy)]
 pub(crate) struct Standing {
     pub(crate) times: u16,
     pub(crate) held: u16,
@@ -32,7 +32,7 @@ const UNNAMED: Standing = Standing {
 };
 
 /// The standing of each inode, by its number; place 0 is for empty entries.
-#[derive(Debug, Drop)]
+#[derive(Drop)]
 pub(crate) struct Standings {
     pub(crate) of: Vec<Standing>,
 }

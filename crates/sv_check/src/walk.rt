@@ -23,13 +23,20 @@ use sv_form::{ADDRESSES, DIRECT, Geometry, NoMemory, number24, number32};
 /// Whose each block is as far as the walk has come, 0 for none. Then what the walk found of the present inode: whether
 /// a block lies past its size or is an empty indirect block, whether its last page has a tail, and its pages; and the
 /// number at which the walk stopped.
-#[derive(Debug, Drop)]
+#[derive(Drop)]
 pub(crate) struct Walk {
     pub(crate) owner: Vec<u16>,
     pub(crate) past: bool,
     pub(crate) tail: bool,
     pub(crate) pages: Vec<PageBlock>,
     pub(crate) bad: u32,
+}
+
+/// Memory for one block.
+pub(crate) fn new_block(alloc: Global, sizes: &Geometry) -> Result<Vec<u8>, NoMemory>
+    ensures { IfOk result (λ b. length b.items ≡ sizes.now.block_size) }
+{
+    vec![in alloc; 0; sizes.block_size as usize]
 }
 
 /// Reads one block into memory of its own.
@@ -48,7 +55,7 @@ pub(crate) fn block_in_memory<D: Disk>(
     ensures content { D.content disk.new ≡ D.content disk.old }
     ensures faults { D.faults disk.old ≤ D.faults disk.new }
 {
-    let mut block = vec![in alloc; 0; sizes.block_size as usize]?;
+    let mut block = new_block(alloc, sizes)?;
     read_block(disk, sizes, number, &mut block)?;
     Ok(block)
 }

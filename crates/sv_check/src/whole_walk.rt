@@ -27,7 +27,7 @@ use sv_form::{Geometry, NoMemory};
 
 /// What the walk over the blocks of all inodes shows: the first bad number, at which it stopped; and where there is none,
 /// the first inodes that fail the conditions PastSize and Tail, and the directories, ascending.
-#[derive(Debug, Drop)]
+#[derive(Drop)]
 pub(crate) struct BlockWalk {
     pub(crate) walk: Walk,
     pub(crate) bad: Option<Met>,

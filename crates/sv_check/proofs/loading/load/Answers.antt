@@ -5,8 +5,8 @@ use Rattle.sv_check.proofs.SoundParts.{sound_walked}
 use Rattle.sv_check.proofs.WholeTree.{tree_whole}
 use Rattle.sv_check.proofs.loading.load.Goals as goal
 
-pub load_nodes-requires-clause-walked : goal.load_nodes-requires-clause-walked
-load_nodes-requires-clause-walked g c = λ _ _. sound_walked (g.D.Disk.content c.args.disk.now) c.requires.sound
+pub load_tree-requires-clause-walked : goal.load_tree-requires-clause-walked
+load_tree-requires-clause-walked g c = λ _ _. sound_walked (g.D.Disk.content c.args.disk.now) c.requires.sound
 
 pub returns-clause-whole : goal.returns-clause-whole
-returns-clause-whole g c = subst (λ (s : Fs). IsWhole s) (sym c.in_ok-load_nodes.ensures.tree) (tree_whole (g.D.Disk.content c.args.disk.now) c.requires.sound)
+returns-clause-whole g c = subst (λ (s : Fs). IsWhole s) (sym c.in_ok-load_tree.ensures.tree) (tree_whole (g.D.Disk.content c.args.disk.now) c.requires.sound)
