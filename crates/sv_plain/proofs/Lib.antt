@@ -50,6 +50,7 @@ pub mod NameBytes
 pub mod OpenedInodes
 pub mod PageAdds
 pub mod PageBytes
+pub mod PagesHeld
 pub mod Places
 pub mod Purged
 pub mod PutBytes

@@ -2,7 +2,7 @@ use crate::{Mode, Need};
 use sv_form::{Bytes, Kind, Name};
 
 /// A step of the file system, as a process asks for it. Each takes place at one moment.
-#[derive(PartialEq, Eq, Drop)]
+#[derive(Drop)]
 pub enum Op {
     /// Looks a name up in a directory and takes a reference to the child (Bach, chapter 4.3, one turn of namei).
     Look {

@@ -1,7 +1,7 @@
 use sv_form::{Bytes, Kind};
 
 /// What a step answers. Which replies an op has, and when, is `replies` of the specs.
-#[derive(PartialEq, Eq, Drop)]
+#[derive(Drop)]
 pub enum Reply {
     /// The inode that the name leads to; the process has a reference to it now.
     Found(u16),

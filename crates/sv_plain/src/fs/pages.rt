@@ -23,6 +23,16 @@ impl Fs {
         }
     }
 
+    // How many blocks node i uses.
+    pub(crate) fn block_count(&self, i: u16) -> usize
+        ensures { result ≡ set.len (node_blocks self.now i) }
+    {
+        match self.blocks.get(u32::from(i)) {
+            Some(blocks) => blocks.len(),
+            None => 0,
+        }
+    }
+
     // Puts these bytes, which take so many blocks, into node i at `at`, where there is such a node, or changes nothing. A
     // number of blocks at its type's end is refused like want of memory.
     pub(crate) fn put_bytes(

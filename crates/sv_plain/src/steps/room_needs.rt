@@ -11,13 +11,17 @@ ghost use Rattle.sv_plain.specs.NeedsWithin.{within};
 use crate::{Fs, Need};
 
 impl Fs {
-    // How many blocks more node i would use with `count` pages from `first` on, where that is at most `most`. A page that
-    // is absent takes a block, so no more pages are looked at than are present, and one more than there is room for.
+    // How many blocks more node i would use with `count` pages from `first` on, where that is at most `most`. Each page
+    // beyond the blocks of the node takes a block, so where these alone are too many, no page is looked at.
     fn pages_need_within(&self, i: u16, first: u32, count: u32, most: u64) -> Option<u32>
         requires { first + 4 * count ≤ 4294967295 }
         ensures { result ≡ within most (added (node_blocks self.now i) (numbers_per self.now.block) (range_with_len first count)) }
     {
         let _block = self.block_size();
+        let absent = u64::from(count).saturating_sub(self.block_count(i) as u64);
+        if absent > most {
+            return None;
+        }
         let mut need = 0;
         for k in 0..count {
             need += self.page_need(i, first, first + k);

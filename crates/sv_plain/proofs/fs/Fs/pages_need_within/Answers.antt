@@ -5,8 +5,15 @@ use Rattle.sv_plain.specs.Fs.{Fs}
 use Rattle.sv_plain.specs.Missing.{node_blocks, added}
 use Rattle.sv_plain.specs.NeedsWithin.{within}
 use Rattle.sv_plain.proofs.BlocksAdded.{added-none, added-more}
+use Rattle.sv_plain.proofs.PagesHeld.{added-many}
 use Rattle.sv_plain.proofs.RoomNeeds.{added-below, held, none_held}
 use Rattle.sv_plain.proofs.fs.Fs.pages_need_within.Goals as goal
+
+pub returns-then-absent-most : goal.returns-then-absent-most
+returns-then-absent-most c =
+    let fs : Fs = c.args.self.now in
+    none_held c.args.most (added (node_blocks fs c.args.i) (numbers_per fs.block) (range_with_len c.args.first c.args.count))
+    (omega (arith, c.if-absent-most.true, c.from.ensures, c.block_count.ensures, added-many (node_blocks fs c.args.i) (numbers_per fs.block) c.args.first c.args.count))
 
 pub loop-k-init : goal.loop-k-init
 loop-k-init c = record {
