@@ -1,5 +1,5 @@
 -- Files that writes are tried on.
-use Rattle.std.proofs.Common.{◌≡◌, ◌≤◌, ◌<◌, ◌*◌, ◌/◌, ℕ, Bool, true, false, List, length, Result, Ok, OnOk, IsSome, nat_lt, refl, sym}
+use Rattle.std.proofs.Common.{◌≡◌, ◌≤◌, ◌<◌, ◌*◌, ◌/◌, ℕ, Bool, true, false, List, length, IsSome, nat_lt, refl, sym}
 use Rattle.std.proofs.Common.{ap, ◌∙◌, subst, arith}
 use Rattle.std.specs.FinMap as fmap
 use Rattle.std.specs.List.{range_with_len}
@@ -25,9 +25,6 @@ use Rattle.sv_inode.specs.Truncate.{HoldsInode}
 use Rattle.sv_inode.specs.Write.{write_need}
 use Rattle.sv_inode.proofs.Emptied.{empty-stands}
 use Rattle.sv_inode.proofs.PagesPut.{touched-length}
-
-pub when-ok : {T E : Type 0} {P : Type 0} {x : T} (r : Result T E) → r ≡ Ok x → OnOk r P → P
-when-ok {T} {E} {P} {x} r e p = let Q : Result T E → Type 0 = λ q. OnOk q P in subst Q e p
 
 -- no page of a range is counted with more than four blocks
 four-each : (g : Geometry) (h : Held) (a : List ℕ) (first page : ℕ) → need_at g h a first page ≤ 4

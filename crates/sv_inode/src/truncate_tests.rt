@@ -66,7 +66,7 @@ fn zero_block(alloc: Global) -> Result<Vec<u8>, NoMemory>
 }
 
 // A stake of 64 blocks, in which one call fails. The lines of the first sixteen inodes are zero bytes.
-pub(crate) fn whole_stake(alloc: Global, failing: u64) -> Result<OwnStake, NoMemory>
+fn whole_stake(alloc: Global, failing: u64) -> Result<OwnStake, NoMemory>
     ensures held { IfOk result (λ s. (b l : ℕ) → b < 64 → l < 16 → IsSome (⟦<OwnStake as Stake>⟧.held s b l)) }
     ensures first { IfOk result (λ s. ⟦<OwnStake as Stake>⟧.held s 2 0 ≡ Some (replicate 64 0)) }
     ensures row { IfOk result (λ s. (l : ℕ) → l < 16 → ⟦<OwnStake as Stake>⟧.held s 60 l ≡ Some (line_of (set (replicate 1024 0) 0 61) l)) }
@@ -111,17 +111,14 @@ fn mounted(alloc: Global) -> Result<Mounted, NoMemory>
 }
 
 // The lines of the superblock and of inode 1, as a core without free blocks.
-pub(crate) fn empty_core<S: Stake>(
-    alloc: Global,
-    source: &mut S,
-) -> Result<Result<SuperCore<S>, (S, NoMemory)>, Refusal>
+fn empty_core<S: Stake + Drop>(alloc: Global, source: &mut S) -> Result<SuperCore<S>, Refusal>
     requires held { (b l : ℕ) → b < 64 → l < 16 → IsSome (S.held source.old b l) }
     requires first { S.held source.old 2 0 ≡ Some (replicate 64 0) }
     requires row { (l : ℕ) → l < 16 → S.held source.old 60 l ≡ Some (line_of (set (replicate 1024 0) 0 61) l) }
     requires lent { S.lent source.old ≡ nothing_lent }
     requires sizes { (S.origin source.old).sizes ≡ sample_sizes }
-    ensures source { IfOk result (λ made. IfOk made
-        (λ core. IsSource (S.origin core.stake) (S.held core.stake) (S.origin source.new) (S.held source.new) (S.lent source.new) 64)) }
+    ensures source { IfOk result (λ core. IsSource (S.origin core.stake) (S.held core.stake) (S.origin source.new) (S.held source.new)
+        (S.lent source.new) 64) }
     ensures line { OnOk result (IsSome (S.held source.new 2 2)) }
     ensures row { OnOk result ((l : ℕ) → l < 16 → S.held source.new 60 l ≡ Some (line_of (set (replicate 1024 0) 0 61) l)) }
 {
@@ -139,7 +136,48 @@ pub(crate) fn empty_core<S: Stake>(
     ];
     let mounted = mounted(alloc)?;
     let stake = source.part(alloc, &lines)?;
-    Ok(SuperCore::new(alloc, stake, &mounted))
+    match SuperCore::new(alloc, stake, &mounted) {
+        Ok(core) => Ok(core),
+        Err(_) => Err(Refusal::NoMemory),
+    }
+}
+
+// A core without free blocks, and a file whose stake has all other lines.
+pub(crate) struct Disk {
+    pub(crate) core: SuperCore<OwnStake>,
+    pub(crate) inode: LockedInode<OwnStake>,
+}
+
+// A disk with this file as inode 3, where the calls of each stake with this number fail.
+pub(crate) fn disk_with(alloc: Global, failing: u64, body: InodeBody) -> Result<Disk, Refusal>
+    ensures source { IfOk result (λ disk. IsSource (⟦<OwnStake as Stake>⟧.origin disk.core.stake)
+        (⟦<OwnStake as Stake>⟧.held disk.core.stake) (⟦<OwnStake as Stake>⟧.origin disk.inode.stake)
+        (⟦<OwnStake as Stake>⟧.held disk.inode.stake) (⟦<OwnStake as Stake>⟧.lent disk.inode.stake) 64) }
+    ensures line { IfOk result (λ disk. IsSome (⟦<OwnStake as Stake>⟧.held disk.inode.stake 2 2)) }
+    ensures row { IfOk result (λ disk. (l : ℕ) → l < 16
+        → ⟦<OwnStake as Stake>⟧.held disk.inode.stake 60 l ≡ Some (line_of (set (replicate 1024 0) 0 61) l)) }
+    ensures number { IfOk result (λ disk. disk.inode.number ≡ 3) }
+    ensures body { IfOk result (λ disk. disk.inode.body ≡ body) }
+{
+    let mut source = whole_stake(alloc, failing)?;
+    let core = empty_core(alloc, &mut source)?;
+    let inode = LockedInode {
+        number: 3,
+        body,
+        stake: source,
+    };
+    Ok(Disk { core, inode })
+}
+
+// Lets a disk go.
+pub(crate) fn let_go(disk: Disk) {
+    let Disk { core, inode } = disk;
+    let _stake = core.give_up();
+    let LockedInode {
+        number: _,
+        body: _,
+        stake: _rest,
+    } = inode;
 }
 
 // The next block that is handed out.
@@ -157,13 +195,16 @@ fn next_block<R: Wait, S: Stake + Drop>(
     }
 }
 
-// A file is made empty: the answer, how many blocks are free before that and after it, and which comes first then.
+// What is seen of a file as it is made empty: the answer, how many blocks are free before that and after it, which comes first
+// then, and the file's size and addresses.
+type Seen = (Result<(), Refusal>, u32, u32, Option<u32>, u32, [u32; 13]);
+
 fn truncated<R: Wait, S: Stake + Drop>(
     rt: &R,
     alloc: Global,
     inode: &mut LockedInode<S>,
     core: &mut SuperCore<S>,
-) -> (Result<(), Refusal>, u32, u32, Option<u32>)
+) -> Seen
     requires source { IsSource (S.origin core.old.stake) (S.held core.old.stake) (S.origin inode.old.stake) (S.held inode.old.stake)
         (S.lent inode.old.stake) 64 }
     requires number { inode.old.number ≡ 3 }
@@ -175,81 +216,38 @@ fn truncated<R: Wait, S: Stake + Drop>(
     let answer = inode.truncate(rt, alloc, core);
     let after = core.left();
     let next = next_block(rt, alloc, core);
-    (answer, before, after, next)
+    (
+        answer,
+        before,
+        after,
+        next,
+        inode.body.size,
+        inode.body.addresses,
+    )
 }
 
-// What is seen of the file as it is made empty while one call fails, and its size and addresses then.
-#[derive(PartialEq, Eq, Debug, Drop)]
-struct Seen {
-    answer: Result<(), Refusal>,
-    before: u32,
-    after: u32,
-    next: Option<u32>,
-    size: u32,
-    addresses: [u32; 13],
-}
-
+// The file of eleven pages is made empty while one call fails.
 fn run_truncate<R: Wait>(rt: &R, alloc: Global, failing: u64) -> Result<Seen, Refusal> {
-    let mut source = whole_stake(alloc, failing)?;
-    match empty_core(alloc, &mut source)? {
-        Ok(core) => {
-            let mut core = core;
-            let mut inode = LockedInode {
-                number: 3,
-                body: FILE,
-                stake: source,
-            };
-            let (answer, before, after, next) = truncated(rt, alloc, &mut inode, &mut core);
-            let _stake = core.give_up();
-            let LockedInode {
-                number: _,
-                body,
-                stake: _rest,
-            } = inode;
-            let addresses = body.addresses;
-            Ok(Seen {
-                answer,
-                before,
-                after,
-                next,
-                size: body.size,
-                addresses,
-            })
-        }
-        Err(_) => Err(Refusal::NoMemory),
-    }
+    let mut disk = disk_with(alloc, failing, FILE)?;
+    let seen = truncated(rt, alloc, &mut disk.inode, &mut disk.core);
+    let_go(disk);
+    Ok(seen)
 }
 
 #[test]
 fn the_blocks_of_a_file_that_was_made_empty_are_free(rt: HostRuntime) -> Result<(), Fail> {
-    let seen = run_truncate(&rt, rt.alloc(), 0)?;
     assert_eq!(rt;
-        seen,
-        Seen {
-            answer: Ok(()),
-            before: 0,
-            after: 12,
-            next: Some(50),
-            size: 0,
-            addresses: [0; 13],
-        }
+        run_truncate(&rt, rt.alloc(), 0),
+        Ok((Ok(()), 0, 12, Some(50), 0, [0; 13]))
     );
     Ok(())
 }
 
 #[test]
 fn a_file_whose_indirect_block_cannot_be_read_stays(rt: HostRuntime) -> Result<(), Fail> {
-    let seen = run_truncate(&rt, rt.alloc(), 1)?;
     assert_eq!(rt;
-        seen,
-        Seen {
-            answer: Err(Refusal::Fault),
-            before: 0,
-            after: 0,
-            next: None,
-            size: 11264,
-            addresses: [50, 51, 52, 53, 54, 55, 56, 57, 58, 59, 60, 0, 0],
-        }
+        run_truncate(&rt, rt.alloc(), 1),
+        Ok((Err(Refusal::Fault), 0, 0, None, 11264, FILE.addresses))
     );
     Ok(())
 }

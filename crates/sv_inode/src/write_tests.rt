@@ -3,7 +3,7 @@ ghost use Rattle.std.specs.Prelude.{◌≡◌, ◌≤◌, ◌+◌, ◌∷◌, []
 ghost use Rattle.sv_super.specs.Sample.{IsSource};
 ghost use Rattle.sv_inode.specs.Ready.{IsReady};
 
-use crate::truncate_tests::{empty_core, whole_stake};
+use crate::truncate_tests::{disk_with, let_go};
 use crate::{LockedInode, WriteStop};
 use std::alloc::Global;
 use std::sync::Wait;
@@ -108,15 +108,15 @@ fn write<R: Wait, S: Stake>(
     Some((answer, core.left()))
 }
 
-// What is seen of two writes at the begin of a file, and of the file then being made empty.
-#[derive(PartialEq, Eq, Debug, Drop)]
-struct Seen {
-    first: Option<Written>,
-    second: Option<Written>,
-    size: u32,
-    emptied: Result<(), Refusal>,
-    free: u32,
-}
+// What is seen of two writes at the begin of a file: what each answers, the file's size then, what it answers as it is made
+// empty, and how many blocks are free in the end.
+type Seen = (
+    Option<Written>,
+    Option<Written>,
+    u32,
+    Result<(), Refusal>,
+    u32,
+);
 
 fn two_writes<R: Wait, S: Stake>(
     rt: &R,
@@ -133,84 +133,61 @@ fn two_writes<R: Wait, S: Stake>(
     let second = write(rt, alloc, inode, core, second);
     let size = inode.body.size;
     let emptied = inode.truncate(rt, alloc, core);
-    let free = core.left();
-    Seen {
-        first,
-        second,
-        size,
-        emptied,
-        free,
-    }
+    (first, second, size, emptied, core.left())
 }
 
-// The writes, where the blocks were freed.
-fn once_freed<R: Wait, S: Stake>(
+// The writes, once all blocks are free.
+fn free_and_write<R: Wait, S: Stake>(
     rt: &R,
     alloc: Global,
-    freed: Result<(), Refusal>,
     inode: &mut LockedInode<S>,
     core: &mut SuperCore<S>,
     first: &[u8],
     second: &[u8],
-) -> Option<Seen>
-    requires source { OnOk freed (IsSource (S.origin core.old.stake) (S.held core.old.stake) (S.origin inode.old.stake)
-        (S.held inode.old.stake) (S.lent inode.old.stake) 5) }
-    requires line { OnOk freed (IsSome (S.held inode.old.stake 2 2)) }
+) -> Result<Seen, Refusal>
+    requires source { IsSource (S.origin core.old.stake) (S.held core.old.stake) (S.origin inode.old.stake) (S.held inode.old.stake)
+        (S.lent inode.old.stake) 64 }
+    requires line { IsSome (S.held inode.old.stake 2 2) }
     requires number { inode.old.number ≡ 3 }
     requires size { inode.old.body.size ≡ 0 }
     requires addresses { inode.old.body.addresses ≡ 0 ∷ 0 ∷ 0 ∷ 0 ∷ 0 ∷ 0 ∷ 0 ∷ 0 ∷ 0 ∷ 0 ∷ 0 ∷ 0 ∷ 0 ∷ [] }
 {
-    match freed {
-        Ok(()) => Some(two_writes(rt, alloc, inode, core, first, second)),
-        Err(_) => None,
-    }
+    free_each(rt, alloc, core, &mut inode.stake)?;
+    Ok(two_writes(rt, alloc, inode, core, first, second))
 }
 
-// Two writes of so many bytes, while one call of each stake fails.
+// Two writes, while one call of each stake fails.
+fn writes_of<R: Wait>(
+    rt: &R,
+    alloc: Global,
+    failing: u64,
+    first: &[u8],
+    second: &[u8],
+) -> Result<Seen, Refusal> {
+    let mut disk = disk_with(alloc, failing, FILE)?;
+    let seen = free_and_write(rt, alloc, &mut disk.inode, &mut disk.core, first, second);
+    let_go(disk);
+    seen
+}
+
+// Two writes of so many bytes.
 fn run_writes<R: Wait>(
     rt: &R,
     alloc: Global,
     failing: u64,
     first: usize,
     second: usize,
-) -> Result<Option<Seen>, Refusal> {
+) -> Result<Seen, Refusal> {
     let first = vec![in alloc; 7u8; first]?;
     let second = vec![in alloc; 8u8; second]?;
-    let mut source = whole_stake(alloc, failing)?;
-    match empty_core(alloc, &mut source)? {
-        Ok(core) => {
-            let mut core = core;
-            let freed = free_each(rt, alloc, &mut core, &mut source);
-            let mut inode = LockedInode {
-                number: 3,
-                body: FILE,
-                stake: source,
-            };
-            let seen = once_freed(rt, alloc, freed, &mut inode, &mut core, &first, &second);
-            let _stake = core.give_up();
-            let LockedInode {
-                number: _,
-                body: _,
-                stake: _rest,
-            } = inode;
-            Ok(seen)
-        }
-        Err(_) => Err(Refusal::NoMemory),
-    }
+    writes_of(rt, alloc, failing, first.as_slice(), second.as_slice())
 }
 
 #[test]
 fn eleven_pages_take_twelve_blocks(rt: HostRuntime) -> Result<(), Fail> {
-    let seen = run_writes(&rt, rt.alloc(), 0, 11264, 0)?;
     assert_eq!(rt;
-        seen,
-        Some(Seen {
-            first: Some((Ok(()), 47)),
-            second: None,
-            size: 11264,
-            emptied: Ok(()),
-            free: 59,
-        })
+        run_writes(&rt, rt.alloc(), 0, 11264, 0),
+        Ok((Some((Ok(()), 47)), None, 11264, Ok(()), 59))
     );
     Ok(())
 }
@@ -228,18 +205,11 @@ fn second_answer(failing: u64) -> Written {
     }
 }
 
-fn second_of(seen: Option<Seen>) -> Option<Written> {
-    match seen {
-        Some(seen) => seen.second,
-        None => None,
-    }
-}
-
 #[test]
 fn a_write_that_fails_ends_with_a_page(rt: HostRuntime) -> Result<(), Fail> {
     for failing in 1..14u64 {
-        let seen = run_writes(&rt, rt.alloc(), failing, 10240, 12288)?;
-        assert_eq!(rt; second_of(seen), Some(second_answer(failing)));
+        let (_, second, _, _, _) = run_writes(&rt, rt.alloc(), failing, 10240, 12288)?;
+        assert_eq!(rt; second, Some(second_answer(failing)));
     }
     Ok(())
 }
