@@ -86,17 +86,17 @@ with_block-same b bytes current e same = ap (λ t. cond t bytes (current e)) (eq
 pub with_block-other : (b : ℕ) (bytes : List ℕ) (current : ℕ → List ℕ) (e : ℕ) → e ≢ b → with_block b bytes current e ≡ current e
 with_block-other b bytes current e other = ap (λ t. cond t bytes (current e)) (ne_eqb e b other)
 
--- buffer k of block b has new bytes, still to be written
+-- buffer k of block b has new bytes, still to be written; they are in or out
 pub current-put : {D : Type 0} (c : Cache D) (current : ℕ → List ℕ) (device : Device) (k b : ℕ) (bytes : List ℕ) (x : Buffer)
     → HasCurrent c current device → OneBufferABlock c → (buffer_at c k).block ≡ Some b → length bytes ≡ length (current b)
-    → x.block ≡ (buffer_at c k).block → x.valid ≡ true → x.delayed ≡ true → x.bytes ≡ Some bytes
-    → HasCurrent (changed c k x) (with_block b bytes current) device
+    → x.block ≡ (buffer_at c k).block → x.valid ≡ true → x.delayed ≡ true
+    → ((y : List ℕ) → x.bytes ≡ Some y → y ≡ bytes) → HasCurrent (changed c k x) (with_block b bytes current) device
 current-put c current device k b bytes x h one named size block valid delayed has =
     let inside = named-inside c k b named in
     record {
       home = λ j. changed-cases c k x (λ i z. (e : ℕ) (y : List ℕ) → z.block ≡ Some e → z.valid ≡ true → z.bytes ≡ Some y
           → y ≡ with_block b bytes current e) inside
-          (λ e y p q r. let same : e ≡ b = cc in let full : y ≡ bytes = cc in full ∙ sym (with_block-same b bytes current e same))
+          (λ e y p q r. let same : e ≡ b = cc in has y r ∙ sym (with_block-same b bytes current e same))
           (λ i n e y p q r. h.home i e y p q r ∙ sym (with_block-other b bytes current e
           (λ (s : e ≡ b). n (one.same i k b (p ∙ ap Some s) named)))) j;
       delayed_valid = λ j. changed-cases c k x (λ i z. z.delayed ≡ true → z.valid ≡ true) inside (λ t. valid) (λ i n. h.delayed_valid i) j;

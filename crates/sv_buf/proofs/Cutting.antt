@@ -1,9 +1,10 @@
 -- Lines are parted and merged.
-use Rattle.std.proofs.Common.{◌≡◌, ◌+◌, ◌*◌, ◌<◌, ◌==◌, ◌++◌, ◌||◌, ℕ, Bool, true, false, cond, not, min, List, [], ◌∷◌, length, take, drop, Option, Some, None, is_some, IsSome, IfSome, Result, Ok, Err, OnOk, OnErr, refl, sym, ap, ◌∙◌, subst, arith}
-use Rattle.std.specs.List.{filter}
+use Rattle.std.proofs.Common.{◌≡◌, ◌+◌, ◌*◌, ◌<◌, ◌≤◌, ◌==◌, ◌++◌, ◌||◌, ℕ, zero, suc, Bool, true, false, cond, not, min, List, [], ◌∷◌, length, take, drop, Option, Some, None, is_some, IsSome, IfSome, Result, Ok, Err, OnOk, OnErr, refl, sym, ap, ◌∙◌, subst, arith}
+use Rattle.std.specs.List.{count_by, filter}
 use Rattle.std.proofs.Math.Path.{fun_ext}
 use Rattle.std.proofs.lemmas.Bool.{false≢true, eqb-true, eq-eqb, and_parts}
 use Rattle.std.proofs.lemmas.List.{length-append}
+use Rattle.std.proofs.lemmas.List.Sums.{sum_by-cons, sum_by-append}
 use Rattle.std.proofs.lemmas.List.Sorted.{IsPermutation-filter_both, IsPermutation-refl}
 use Rattle.sv_dev.specs.Causes.{counted, last_count}
 use Rattle.sv_form.specs.declared.geometry.Geometry.{Geometry}
@@ -13,13 +14,14 @@ use Rattle.sv_turn.specs.declared.turn.Turn.{Turn}
 use Rattle.sv_turn.specs.Passes.{pass_view, IsPassOf}
 use Rattle.sv_turn.specs.Numbers.{pass_numbers}
 use Rattle.sv_turn.proofs.Numbers.{same_turn, pass_turn}
-use Rattle.sv_store.specs.Held.{Held, Origin, InRange, Both, in_ranges, chosen, rest, nothing_lent, with}
+use Rattle.sv_store.specs.Held.{Held, Origin, InRange, Apart, Both, in_ranges, chosen, rest, nothing_lent, with}
 use Rattle.sv_store.specs.Calls.{CanPart}
-use Rattle.sv_buf.specs.View.{View, Noted, Lending, Opening, is_at, held_of, lent_of}
+use Rattle.sv_buf.specs.View.{View, Noted, Lending, Opening, is_at, hits, held_of, lent_of}
 use Rattle.sv_buf.specs.Changes.{kept_view, parted_view, merged_view}
 use Rattle.sv_buf.specs.Running.{IsFit}
 use Rattle.sv_buf.specs.Parting.{IsCut}
 use Rattle.sv_buf.specs.Stake.{opening_numbers, pass_origin}
+use Rattle.sv_buf.proofs.Lists.{held-some}
 
 -- the held lines among those that pass a test
 pub held-filter : (p : ℕ → ℕ → Bool) (ns : List Noted) (b l : ℕ) → held_of (filter (λ n. p n.block n.line) ns) b l ≡ cond (p b l)
@@ -106,6 +108,21 @@ cut-part lines v fit can = record {
   );
 }
 
+-- of the lines that pass a test, each is noted at most as often
+pub fewer-hits : (q : Noted → Bool) (b l : ℕ) (ns : List Noted) → count_by (is_at b l) (filter q ns) ≤ count_by (is_at b l) ns
+fewer-hits q b l [] = omega arith
+fewer-hits q b l (n ∷ ns) = by (q n) (fewer-hits q b l ns)
+  where
+    by : (t : Bool) → count_by (is_at b l) (filter q ns) ≤ count_by (is_at b l) ns
+        → count_by (is_at b l) (cond t (n ∷ filter q ns) (filter q ns)) ≤ count_by (is_at b l) (n ∷ ns)
+    by true again = omega (
+      arith,
+      again,
+      sum_by-cons (λ (x : Noted). cond {A = ℕ} (is_at b l x) 1 0) n ns,
+      sum_by-cons (λ (x : Noted). cond {A = ℕ} (is_at b l x) 1 0) n (filter q ns),
+    )
+    by false again = omega (arith, again, sum_by-cons (λ (x : Noted). cond {A = ℕ} (is_at b l x) 1 0) n ns)
+
 -- fewer lines are in range
 fewer : (g : Geometry) (h k : Held) → ((b l : ℕ) → (t : Bool) × (k b l ≡ cond t (h b l) None)) → InRange g h → InRange g k
 fewer g h k sub range = record {
@@ -129,6 +146,8 @@ fewer g h k sub range = record {
 pub fit-kept : (lines : List LineRange) (v w : View) → w ≡ kept_view lines v → IsFit v
     → CanPart (held_of v.lines) (lent_of v.loans) lines → IsFit w
 fit-kept lines v w is fit can = subst IsFit (sym is) (record {
+  no_worker = fit.no_worker;
+  once = λ b l. let fewer = fewer-hits (λ n. not (in_ranges lines n.block n.line)) b l v.lines in let most = fit.once b l in omega arith;
   sizes = fit.sizes;
   range = fewer v.opening.sizes (held_of v.lines) (held_of (kept_view lines v).lines)
       (λ b l. (not (in_ranges lines b l), held-filter (λ c k. not (in_ranges lines c k)) v.lines b l)) fit.range;
@@ -140,6 +159,8 @@ fit-kept lines v w is fit can = subst IsFit (sym is) (record {
 pub fit-parted : (lines : List LineRange) (v w : View) → w ≡ parted_view lines v → IsFit v
     → CanPart (held_of v.lines) (lent_of v.loans) lines → IsFit w
 fit-parted lines v w is fit can = subst IsFit (sym is) (record {
+  no_worker = refl;
+  once = λ b l. let fewer = fewer-hits (λ n. in_ranges lines n.block n.line) b l v.lines in let most = fit.once b l in omega arith;
   sizes = fit.sizes;
   range = fewer v.opening.sizes (held_of v.lines) (held_of (parted_view lines v).lines)
       (λ b l. (in_ranges lines b l, held-filter (in_ranges lines) v.lines b l)) fit.range;
@@ -147,6 +168,14 @@ fit-parted lines v w is fit can = subst IsFit (sym is) (record {
   calm = fit.calm;
   home = fit.home;
 })
+
+-- what is not held is not noted
+pub unheld-none : (b l : ℕ) (ns : List Noted) → held_of ns b l ≡ None → count_by (is_at b l) ns ≡ 0
+unheld-none b l ns none = by (count_by (is_at b l) ns) refl
+  where
+    by : (n : ℕ) → count_by (is_at b l) ns ≡ n → count_by (is_at b l) ns ≡ 0
+    by zero e = e
+    by (suc n) e = absurd (false≢true (subst (λ (o : Option (List ℕ)). IsSome o) none (held-some b l ns (omega arith))))
 
 -- the lines of both
 pub held-append : (xs ys : List Noted) → held_of (xs ++ ys) ≡ Both (held_of xs) (held_of ys)
@@ -183,9 +212,12 @@ cut-merge v w fit other opening nothing = record {
   some = (fit.some, other.some);
 }
 
-pub fit-merged : (v w x : View) → x ≡ merged_view v w → w.opening ≡ v.opening → IsFit v → IsFit w → IsFit x
+pub fit-merged : (v w x : View) → x ≡ merged_view v w → w.opening ≡ v.opening → Apart (held_of v.lines) (held_of w.lines) → IsFit v
+    → IsFit w → IsFit x
 unfolding Both
-fit-merged v w x is opening fit other = subst IsFit (sym is) (record {
+fit-merged v w x is opening apart fit other = subst IsFit (sym is) (record {
+  no_worker = let mine = fit.no_worker in let theirs = other.no_worker in omega arith;
+  once = λ b l. by b l (hits b l v) refl;
   sizes = fit.sizes;
   range = subst (InRange v.opening.sizes) (sym (held-append v.lines w.lines)) (both v.opening.sizes (held_of v.lines) (held_of w.lines)
       fit.range (subst (λ (o : Opening). InRange o.sizes (held_of w.lines)) opening other.range));
@@ -194,6 +226,14 @@ fit-merged v w x is opening fit other = subst IsFit (sym is) (record {
   home = fit.home;
 })
   where
+    by : (b l n : ℕ) → hits b l v ≡ n → hits b l (merged_view v w) ≤ 1
+    by b l zero none = let most = other.once b l in
+        omega (arith, none, sum_by-append (λ (y : Noted). cond {A = ℕ} (is_at b l y) 1 0) v.lines w.lines)
+    by b l (suc n) some =
+        let most = fit.once b l in
+        let gone : hits b l w ≡ 0 = unheld-none b l w.lines (apart.at b l (held-some b l v.lines (omega arith))) in
+        omega (arith, gone, sum_by-append (λ (y : Noted). cond {A = ℕ} (is_at b l y) 1 0) v.lines w.lines)
+
     both : (g : Geometry) (h k : Held) → InRange g h → InRange g k → InRange g (Both h k)
     both g h k p q = record {
       block = λ b l. at (λ _. b < g.blocks) (h b l) (k b l) (p.block b l) (q.block b l);

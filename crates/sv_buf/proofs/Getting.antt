@@ -1,5 +1,5 @@
 -- A search met a buffer: what may be left with then.
-use Rattle.std.proofs.Common.{◌≡◌, ◌+◌, ◌<◌, ◌≤◌, ◌==◌, ◌++◌, ℕ, zero, suc, Bool, true, false, List, [], ◌∷◌, length, set, Option, Some, None, IfSome, IfNone, refl, sym, ap, ◌∙◌, subst, arith, inl, inr, nat_lt}
+use Rattle.std.proofs.Common.{◌≡◌, ◌+◌, ◌<◌, ◌≤◌, ◌==◌, ◌++◌, ℕ, zero, suc, Bool, true, false, List, [], ◌∷◌, length, set, Option, Some, None, IsSome, IfSome, IfNone, refl, sym, ap, ◌∙◌, subst, arith, inl, inr, nat_lt}
 use Rattle.std.specs.List.{sum_by}
 use Rattle.std.proofs.lemmas.Bool.{cases_eq, ltb-true, false≢true, false_from_ne_true}
 use Rattle.std.proofs.lemmas.List.{length-set}
@@ -12,7 +12,7 @@ use Rattle.sv_turn.specs.Passes.{pass_view, HasEntered}
 use Rattle.sv_cache.specs.declared.scenario.Scenario.TheVariants as met
 use Rattle.sv_cache.specs.declared.scenario.Release.TheVariants as how
 use Rattle.sv_cache.specs.Cache.{Cache, Buffer, buffer_at, is_delayed, IsBusy}
-use Rattle.sv_cache.specs.Getblk.{after_search, renamed, IsCause}
+use Rattle.sv_cache.specs.Getblk.{after_search, renamed, IsCause, IsReused}
 use Rattle.sv_cache.specs.Brelse.{after_lend, after_release, released, freed}
 use Rattle.sv_cache.specs.Lawful.{IsLawful}
 use Rattle.sv_cache.proofs.Laws.{changed, changed-same, times-freed}
@@ -23,7 +23,7 @@ use Rattle.sv_buf.specs.Changes.{calm_view, moving_view}
 use Rattle.sv_buf.specs.Running.{IsMoving, IsSeen, IsRunning}
 use Rattle.sv_buf.specs.Pending.{IsPending}
 use Rattle.sv_buf.proofs.Bytes.{current-as}
-use Rattle.sv_buf.proofs.Steps.{step, seen-changed}
+use Rattle.sv_buf.proofs.Steps.{step, seen-changed, queued-apart}
 use Rattle.sv_buf.proofs.Taking.{none_out, none_out-mine, apart-away, kept-changed, Takes, takes, same-away}
 
 -- a step from one state and view that may be left with to others
@@ -41,7 +41,7 @@ pub pending-entered : {R S V : Type 0} (holds : S → List V → Type 0) (p : Pa
     → holds s (pass_view p ∷ others) → IsPending holds p s (pass_view p)
 pending-entered holds p s others inside so = record { may = (s, inside, λ us q. q); others = others; so = so }
 
-set-set : (xs : List Buffer) (k : ℕ) (x y : Buffer) → set (set xs k x) k y ≡ set xs k y
+pub set-set : (xs : List Buffer) (k : ℕ) (x y : Buffer) → set (set xs k x) k y ≡ set xs k y
 set-set [] k x y = refl
 set-set (z ∷ zs) zero x y = refl
 set-set (z ∷ zs) (suc k) x y = ap (λ (l : List Buffer). z ∷ l) (set-set zs k x y)
@@ -144,6 +144,23 @@ module _ {D : Type 0} where
         on_device = refl;
       }) (is ∙ same) lawful
 
+  -- a buffer that was taken for a block is not valid
+  pub taken-unread : (seen : D → Device) (s : State D) (c e : Cache D) (ws : List View) (h : IsRunning seen s ws) (k b : ℕ)
+      → IsCause s.core b (met.Taken k) → c ≡ after_search s.core b (met.Taken k) → e ≡ after_lend c k → (buffer_at e k).valid ≡ false
+  taken-unread seen s c e ws h k b cause searched lent =
+      let at_head : times k s.core.free ≡ one_if (k == k) + times k cause.0.others = ap (times k) cause.0.head in
+      let free : 0 < times k s.core.free = omega (arith, one-if_same k k refl) in
+      let inside : k < length s.core.buffers = h.kept.lawful.one_state.in_range k free in
+      let still : k < length (after_search s.core b (met.Taken k)).buffers = omega
+      (arith, inside, length-set s.core.buffers k (renamed (buffer_at s.core k) b)) in
+      let is : e ≡ after_lend (after_search s.core b (met.Taken k)) k = lent ∙ ap (λ q. after_lend q k) searched in
+      let there : buffer_at (after_search s.core b (met.Taken k)) k ≡ renamed (buffer_at s.core k) b = changed-same s.core k
+      (renamed (buffer_at s.core k) b) inside in
+      ap (λ q. (buffer_at q k).valid) is
+      ∙ (ap (λ (y : Buffer). y.valid) (changed-same (after_search s.core b (met.Taken k)) k
+      (record (buffer_at (after_search s.core b (met.Taken k)) k) { bytes = None }) still)
+      ∙ ap (λ (y : Buffer). y.valid) there)
+
   -- the head of the free list, which is still to be written, is queued for the worker
   pub queues : (seen : D → Device) (s : State D) (c : Cache D) (v : View) (us : List View) (h : IsRunning seen s (v ∷ us)) (k b : ℕ)
       (waiting : List ℕ) → IsCause s.core b (met.Delayed k) → c ≡ after_search s.core b (met.Delayed k) → IsLawful c
@@ -204,6 +221,12 @@ module _ {D : Type 0} where
             device = refl;
             lines = λ e l. refl;
             workers = refl;
+            queued = λ j on. elim (cases_eq j k) [
+              | inl e ↦ subst (λ i. IsSome (buffer_at s.core i).bytes) (sym e) (h.kept.lawful.one_state.home k free)
+              | inr n ↦
+                  let none : one_if (k == j) ≡ 0 = none-if_other k j (λ q. n (sym q)) in
+                  h.one_state.queued j (omega (arith, times-push k j s.requests.waiting))
+            ];
           })
           (λ low. (omega arith, omega arith))
           (seen-changed s.core h.kept.current h.kept.device (record s.core { free = without k s.core.free }) h.kept.current
@@ -215,9 +238,9 @@ module _ {D : Type 0} where
 
   -- there is room for a buffer in the queue
   pub has_room : (seen : D → Device) (s : State D) (v : View) (us : List View) (h : IsRunning seen s (v ∷ us)) (k b : ℕ)
-      → IsCause s.core b (met.Delayed k) → length s.requests.waiting < s.requests.capacity
+      → IsReused s.core b k → length s.requests.waiting < s.requests.capacity
   has_room seen s v us h k b cause =
-      let at_head : times k s.core.free ≡ one_if (k == k) + times k cause.0.others = ap (times k) cause.0.head in
+      let at_head : times k s.core.free ≡ one_if (k == k) + times k cause.others = ap (times k) cause.head in
       let free : 0 < times k s.core.free = omega (arith, one-if_same k k refl) in
       let alone = none_out-mine seen s v us h k free in
       let few : length s.requests.waiting < length s.core.buffers = length-lt_numbers (length s.core.buffers) s.requests.waiting k
@@ -308,6 +331,8 @@ module _ {D : Type 0} where
             device = refl;
             lines = λ f l. refl;
             workers = refl;
+            queued = queued-apart s.core k (released (buffer_at s.core k) bytes how.Invalid) (freed s.core.free k how.Invalid)
+                s.core.device s.requests.waiting (omega arith) h.one_state.queued;
           })
           (λ low. (omega arith, omega arith))
           (seen-changed s.core h.kept.current h.kept.device (after_release s.core k bytes how.Invalid) h.kept.current h.kept.device

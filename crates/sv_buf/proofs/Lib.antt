@@ -9,3 +9,7 @@ pub mod Putting
 pub mod Reading
 pub mod Getting
 pub mod Cutting
+pub mod Written
+pub mod Delaying
+pub mod Writing
+pub mod Fitting

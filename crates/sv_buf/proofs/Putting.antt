@@ -22,7 +22,7 @@ use Rattle.sv_buf.specs.View.{View, Device, Noted, is_at, hits, outs, held_of, l
 use Rattle.sv_buf.specs.Changes.{put_view, put_line}
 use Rattle.sv_buf.specs.Running.{IsFit, IsAway, IsLent, IsMoving, IsCurrent, IsSeen, IsRunning}
 use Rattle.sv_buf.proofs.Bytes.{with_block, with_block-same, with_block-other, current-put, current-as}
-use Rattle.sv_buf.proofs.Steps.{step, SameAway, seen-changed}
+use Rattle.sv_buf.proofs.Steps.{step, SameAway, seen-changed, queued-apart}
 use Rattle.sv_buf.proofs.Lists.{All-without, held-none}
 use Rattle.sv_buf.proofs.Taking.{none_out, apart-away}
 use Rattle.sv_buf.proofs.Returning.{LentHere, lent-here, back-counted, others-apart, apart-lent}
@@ -85,7 +85,7 @@ held-put b bytes (n ∷ ns) = fun_ext (λ c. fun_ext (λ l. at c l (is_at c l n)
         (cond t (Some n.bytes) (held_of ns c l))) et ∙ ap (λ t. cond t (Some (line_of bytes l)) (Some n.bytes)) there))
 
 -- each of the put lines is current then
-put-current : (current : ℕ → List ℕ) (b : ℕ) (bytes : List ℕ) (n : Noted) → IsCurrent current n
+pub put-current : (current : ℕ → List ℕ) (b : ℕ) (bytes : List ℕ) (n : Noted) → IsCurrent current n
     → IsCurrent (with_block b bytes current) (put_line b bytes n)
 put-current current b bytes n is =
     elim (cases_eq n.block b) [
@@ -109,7 +109,7 @@ line-counted ns i d below =
 
 module _ {D : Type 0} where
   -- the lines of another view are current after a put
-  other-lines : (seen : D → Device) (s : State D) (v : View) (us : List View) (h : IsRunning seen s (v ∷ us)) (buf : Loan)
+  pub other-lines : (seen : D → Device) (s : State D) (v : View) (us : List View) (h : IsRunning seen s (v ∷ us)) (buf : Loan)
       (was : List ℕ) → was ≡ h.kept.current buf.block
       → ((l : ℕ) → held_of v.lines buf.block l ≡ None → line_of buf.bytes l ≡ line_of was l) → (u : View) → ((g : View → ℕ)
       → g u ≤ sum_by g us) → All (IsCurrent h.kept.current) u.lines
@@ -136,7 +136,7 @@ module _ {D : Type 0} where
           ]
 
   -- a buffer that another view has out is of another block
-  put-away : (c : Cache D) (current : ℕ → List ℕ) (k b : ℕ) (bytes : List ℕ) (x : Buffer) (free : List ℕ) (u : View) → ((j e : ℕ)
+  pub put-away : (c : Cache D) (current : ℕ → List ℕ) (k b : ℕ) (bytes : List ℕ) (x : Buffer) (free : List ℕ) (u : View) → ((j e : ℕ)
       → (buffer_at c j).block ≡ Some e → (buffer_at c k).block ≡ Some e → j ≡ k) → (buffer_at c k).block ≡ Some b → outs k u ≡ 0
       → (j e : ℕ) → 0 < outs j u → IsAway c j e → SameAway c current (record (changed c k x) { free = free })
       (with_block b bytes current) j e
@@ -171,7 +171,7 @@ module _ {D : Type 0} where
             (after_release s.core k buf.bytes how.Delayed) (with_block buf.block buf.bytes h.kept.current) h.kept.device h.kept.device
             refl refl refl
             (current-put s.core h.kept.current h.kept.device k buf.block buf.bytes (released (buffer_at s.core k) buf.bytes how.Delayed)
-            h.kept.bytes h.kept.lawful.one_buffer p.named (can.size ∙ ap length p.current_are) refl refl refl refl);
+            h.kept.bytes h.kept.lawful.one_buffer p.named (can.size ∙ ap length p.current_are) refl refl refl (λ y has. cc));
         device_home = h.kept.device_home;
       }) refl
       (record {
@@ -181,6 +181,8 @@ module _ {D : Type 0} where
         device = refl;
         lines = λ e l. put-hits buf.block buf.bytes e l v.lines;
         workers = refl;
+        queued = queued-apart s.core k (released (buffer_at s.core k) buf.bytes how.Delayed) (freed s.core.free k how.Delayed)
+            s.core.device s.requests.waiting p.idle h.one_state.queued;
       })
       (λ low. (omega arith, omega arith))
       (record {
@@ -240,6 +242,8 @@ fit-put v w b bytes is size fit = subst IsFit (sym is) (record {
   some = let f = fit.some in omega (arith, length-map v.lines (put_line b bytes));
   calm = fit.calm;
   home = fit.home;
+  once = λ c l. subst (λ n. n ≤ 1) (sym (put-hits b bytes c l v.lines)) (fit.once c l);
+  no_worker = fit.no_worker;
 })
   where
     by : (c l : ℕ) (t : Bool) → (c == b) ≡ t → (o : Option (List ℕ)) → (IsSome o → l * 64 < v.opening.sizes.block_size)

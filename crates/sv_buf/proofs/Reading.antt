@@ -20,7 +20,7 @@ use Rattle.sv_buf.proofs.Bytes.{current-as}
 use Rattle.sv_buf.proofs.Steps.{FaultsMove, step, seen-changed}
 use Rattle.sv_buf.proofs.Taking.{same-away}
 
-no_device-seen : (o : Option Device) → one_if (is_some o) ≡ 0 → (P : Device → Type 0) → IfSome o P
+pub no_device-seen : (o : Option Device) → one_if (is_some o) ≡ 0 → (P : Device → Type 0) → IfSome o P
 no_device-seen None none P = tt
 no_device-seen (Some d) none P = absurd (omega arith)
 
@@ -57,6 +57,7 @@ module _ {D : Type 0} where
             (λ o. one_if (is_some o)) none in omega arith;
         lines = λ e l. refl;
         workers = refl;
+        queued = h.one_state.queued;
       })
       (λ low. (omega arith, omega arith))
       (let q = seen-changed s.core h.kept.current h.kept.device (record s.core { device = None }) h.kept.current h.kept.device
@@ -118,6 +119,7 @@ module _ {D : Type 0} where
             let out : devices v ≡ 0 = ap (λ o. one_if (is_some o)) none in omega arith;
         lines = λ e l. refl;
         workers = refl;
+        queued = h.one_state.queued;
       })
       (subst (λ x. FaultsMove x (seen disk) v (record v { faults = f })) known move)
       (let q = seen-changed s.core h.kept.current h.kept.device (record s.core { device = Some disk }) h.kept.current h.kept.device
@@ -161,7 +163,7 @@ module _ {D : Type 0} where
       let full : bytes ≡ h.kept.current b = are ∙ (ap (λ g. block_of g d.content b) sizes
       ∙ (ap (λ x. block_of s.core.geometry x.content b) known ∙ clean)) in
       step seen s s (device_view d (moving_view k b None v)) (device_view d (moving_view k b (Some bytes) v)) us h h.kept refl
-      (record { buffers = refl; sizes = refl; state = λ j. refl; device = refl; lines = λ e l. refl; workers = refl })
+      (record { buffers = refl; sizes = refl; state = λ j. refl; device = refl; lines = λ e l. refl; workers = refl; queued = h.one_state.queued })
       (λ low. (omega arith, omega arith))
       (record {
         opened = mine.opened;

@@ -19,7 +19,7 @@ use Rattle.sv_buf.specs.View.{View, Device, Lending, weight, outs, lent_of, movi
 use Rattle.sv_buf.specs.Changes.{back_view, loans_without}
 use Rattle.sv_buf.specs.Running.{IsLent, IsMoving, IsSeen, IsRunning}
 use Rattle.sv_buf.proofs.Bytes.{TakesPlace}
-use Rattle.sv_buf.proofs.Steps.{step, seen-changed}
+use Rattle.sv_buf.proofs.Steps.{step, seen-changed, queued-apart}
 use Rattle.sv_buf.proofs.Lists.{lent-found, Tells, back-none, back-others, All-without, lent_count}
 use Rattle.sv_buf.proofs.Taking.{none_out, apart-away, kept-changed}
 
@@ -159,6 +159,8 @@ module _ {D : Type 0} where
         device = refl;
         lines = λ e l. refl;
         workers = refl;
+        queued = queued-apart s.core k (released (buffer_at s.core k) bytes way) (freed s.core.free k way) s.core.device
+            s.requests.waiting p.idle h.one_state.queued;
       })
       (λ low. (omega arith, omega arith))
       (record {

@@ -214,6 +214,7 @@ begins {D} seen c n g requests new empty =
           sum_by-cons (outs k) (whole_view (opened_with seen (new_cache new.disk n g)))
               [],
         );
+        queued = λ k on. absurd (omega arith);
       };
       one_device = record { once = refl };
       lines_once = record {
@@ -264,8 +265,14 @@ fit-lines o is whole = record {
   some = let w = whole-weight o is in let least = is.least_blocks in omega arith;
   calm = refl;
   home = refl;
+  no_worker = refl;
+  once = λ b l. subst (λ n. n ≤ 1) (sym (whole-hits o b l is)) (at_most (nat_lt b o.sizes.blocks && nat_lt (l * 64) o.sizes.block_size));
 }
   where
+    at_most : (t : Bool) → one_if t ≤ 1
+    at_most true = omega arith
+    at_most false = omega arith
+
     holds : (t : Bool) (x : List ℕ) → IsSome (cond t (Some x) None) → t ≡ true
     holds true x some = refl
     holds false x some = absurd (false≢true some)

@@ -1,12 +1,13 @@
 -- One step of a pass: the state and its view change, and the rule holds with all other views as before.
-use Rattle.std.proofs.Common.{◌≡◌, ◌+◌, ◌*◌, ◌<◌, ◌≤◌, ◌==◌, ◌&&◌, ℕ, false, cond, List, ◌∷◌, length, get_or, Option, Some, None, is_some, IfSome, IfNone, refl, sym, ap, ◌∙◌, subst, arith, nat_lt}
+use Rattle.std.proofs.Common.{◌≡◌, ◌≢◌, ◌+◌, ◌*◌, ◌<◌, ◌≤◌, ◌==◌, ◌&&◌, ℕ, false, cond, List, ◌∷◌, length, get_or, Option, Some, None, is_some, IsSome, IfSome, IfNone, refl, sym, ap, ◌∙◌, subst, arith, nat_lt}
 use Rattle.std.specs.List.{sum_by, count_by, All}
 use Rattle.std.proofs.lemmas.List.Sums.{sum_by-cons, get_or-le-sum_by}
 use Rattle.std.proofs.lemmas.List.Elements.{All-cons, All-tail}
 use Rattle.sv_dev.specs.Causes.{last_count}
 use Rattle.sv_links.specs.Arrangement.{times, one_if}
 use Rattle.sv_links.proofs.Times.{one-if_same}
-use Rattle.sv_cache.specs.Cache.{Cache, is_delayed}
+use Rattle.sv_cache.specs.Cache.{Cache, Buffer, buffer_at, is_delayed}
+use Rattle.sv_cache.proofs.Laws.{changed, changed-other}
 use Rattle.sv_buf.specs.declared.state.State.{State}
 use Rattle.sv_buf.specs.View.{View, Device, Opening, Lending, Moving, workers, faults, hits, outs, moving_times, devices}
 use Rattle.sv_buf.specs.Running.{FaultsCaused, IsAway, IsLent, IsMoving, IsCurrent, IsSeen, IsKept, IsRunning}
@@ -31,6 +32,7 @@ pub record Counts {D : Type 0} (s t : State D) (v w : View) : Type 0 where
   pub device : one_if (is_some s.core.device) + devices v ≡ one_if (is_some t.core.device) + devices w
   pub lines : (b l : ℕ) → hits b l w ≡ hits b l v
   pub workers : w.workers ≡ v.workers
+  pub queued : (k : ℕ) → 0 < times k t.requests.waiting → IsSome (buffer_at t.core k).bytes
 
 -- what another view notes is still so
 abbrev pub Stays : {D : Type 0} → Cache D → (ℕ → List ℕ) → Device → Cache D → (ℕ → List ℕ) → Device → Opening → List View → Type 0
@@ -54,6 +56,7 @@ step seen s t v w us h kept opening counts move mine others = record {
         let same : one_if (nat_lt k (length t.core.buffers)) ≡ one_if (nat_lt k (length s.core.buffers)) = ap (λ n. one_if (nat_lt k n))
         counts.buffers in
         omega (arith, sum_by-cons (outs k) v us, sum_by-cons (outs k) w us);
+    queued = counts.queued;
   };
   one_device = record {
     once = let e = counts.device in let whole = h.one_device.once in omega
@@ -71,8 +74,16 @@ step seen s t v w us h kept opening counts move mine others = record {
   one_worker = let e = counts.workers in let whole = h.one_worker in omega (arith, sum_by-cons workers v us, sum_by-cons workers w us);
 }
 
+-- a buffer that waits is as it was where the one that changed does not wait
+pub queued-apart : {D : Type 0} (c : Cache D) (k : ℕ) (x : Buffer) (free : List ℕ) (device : Option D) (waiting : List ℕ)
+    → times k waiting ≡ 0 → ((j : ℕ) → 0 < times j waiting → IsSome (buffer_at c j).bytes) → (j : ℕ) → 0 < times j waiting
+    → IsSome (buffer_at (record (changed c k x) { free = free; device = device }) j).bytes
+queued-apart c k x free device waiting none all j on =
+    let n : j ≢ k = (λ e. let z : times j waiting ≡ 0 = subst (λ i. times i waiting ≡ 0) (sym e) none in absurd (omega arith)) in
+    subst (λ (y : Buffer). IsSome y.bytes) (sym (changed-other c k j x n)) (all j on)
+
 -- an element of a list of loans is counted under its buffer
-lent-counted : (xs : List Lending) (k : ℕ) (d : Lending) → k < length xs → 0 < count_by (λ x. x.buffer == (get_or xs k d).buffer) xs
+pub lent-counted : (xs : List Lending) (k : ℕ) (d : Lending) → k < length xs → 0 < count_by (λ x. x.buffer == (get_or xs k d).buffer) xs
 lent-counted xs k d below =
     let one : cond ((get_or xs k d).buffer == (get_or xs k d).buffer) 1 0 ≡ 1 = one-if_same (get_or xs k d).buffer
     (get_or xs k d).buffer refl in

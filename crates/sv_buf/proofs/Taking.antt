@@ -15,7 +15,7 @@ use Rattle.sv_buf.specs.View.{View, Device, Lending, outs, moving_times}
 use Rattle.sv_buf.specs.Changes.{moving_view, lent_view}
 use Rattle.sv_buf.specs.Running.{IsAway, IsLent, IsMoving, IsSeen, IsKept, IsRunning}
 use Rattle.sv_buf.proofs.Bytes.{TakesPlace, current-changed, current-as}
-use Rattle.sv_buf.proofs.Steps.{step, SameAway, seen-changed}
+use Rattle.sv_buf.proofs.Steps.{step, SameAway, seen-changed, queued-apart}
 
 -- no other view has out what stands on the free list, waits, or is out here
 module _ {D : Type 0} where
@@ -122,6 +122,7 @@ module _ {D : Type 0} where
         device = refl;
         lines = λ e l. refl;
         workers = refl;
+        queued = queued-apart s.core k x (without k s.core.free) s.core.device s.requests.waiting alone.1 h.one_state.queued;
       })
       (λ low. (omega arith, omega arith))
       (record {
@@ -167,6 +168,7 @@ module _ {D : Type 0} where
         device = refl;
         lines = λ e l. refl;
         workers = refl;
+        queued = h.one_state.queued;
       })
       (λ low. (omega arith, omega arith))
       (record {

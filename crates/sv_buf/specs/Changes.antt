@@ -1,5 +1,5 @@
 -- What the calls make of a view.
-use Rattle.std.specs.Prelude.{◌+◌, ◌==◌, ◌++◌, ◌||◌, ℕ, List, [], ◌∷◌, map, not, false, Option, Some, None, filter, if◌then◌else◌}
+use Rattle.std.specs.Prelude.{◌+◌, ◌==◌, ◌++◌, ◌||◌, ℕ, List, [], ◌∷◌, map, not, true, false, Option, Some, None, filter, if◌then◌else◌}
 use Rattle.sv_form.specs.declared.owners.LineRange.{LineRange}
 use Rattle.sv_store.specs.Held.{line_of, in_ranges}
 use Rattle.sv_buf.specs.View.{Noted, Lending, Device, View}
@@ -39,6 +39,14 @@ put_line b bytes n = if n.block == b then record n { bytes = line_of bytes n.lin
 -- block b has come back with new bytes
 abbrev pub put_view : ℕ → List ℕ → View → View
 put_view b bytes v = record v { lines = map (put_line b bytes) v.lines; loans = loans_without b v.loans }
+
+-- the lines of block b that are held are those of these bytes
+abbrev pub filled_view : ℕ → List ℕ → View → View
+filled_view b bytes v = record v { lines = map (put_line b bytes) v.lines }
+
+-- block b has come back with new bytes, to be written at once
+abbrev pub written_view : ℕ → List ℕ → View → View
+written_view b bytes v = record v { lines = map (put_line b bytes) v.lines; loans = loans_without b v.loans; forced = true }
 
 -- the lines that do not stand in the ranges are left, with all else
 abbrev pub kept_view : List LineRange → View → View

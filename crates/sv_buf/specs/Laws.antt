@@ -63,7 +63,7 @@ module _ {D : Type 0} where
   rebuilt seen s xs ys h outs_same devices_same hits_same faults_same workers_same each = record {
     kept = h.kept;
     each = each;
-    one_state = record { once = λ k. rw (outs_same k) (h.one_state.once k) };
+    one_state = record { once = λ k. rw (outs_same k) (h.one_state.once k); queued = h.one_state.queued };
     one_device = record { once = rw devices_same h.one_device.once };
     lines_once = record { once = λ b l. hits_same b l ∙ h.lines_once.once b l };
     faults_caused = faults_swap h.kept.opening h.kept.device xs ys faults_same h.faults_caused;

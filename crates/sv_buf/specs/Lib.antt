@@ -6,3 +6,4 @@ pub mod Laws
 pub mod Start
 pub mod Stake
 pub mod Pending
+pub mod Delaying

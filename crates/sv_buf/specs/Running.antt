@@ -1,5 +1,5 @@
 -- The rule of the running cache: what holds of the state and of all views whenever the turn is free.
-use Rattle.std.specs.Prelude.{◌≡◌, ◌+◌, ◌*◌, ◌<◌, ◌≤◌, ◌&&◌, ℕ, true, false, List, length, sum_by, Some, None, is_some, IfSome, IfNone}
+use Rattle.std.specs.Prelude.{◌≡◌, ◌+◌, ◌*◌, ◌<◌, ◌≤◌, ◌&&◌, ℕ, true, false, List, length, sum_by, Some, None, is_some, IsSome, IfSome, IfNone}
 use Rattle.std.specs.Prelude.{nat_lt}
 use Rattle.std.specs.List.{All}
 use Rattle.sv_dev.specs.Causes.{last_count}
@@ -60,9 +60,10 @@ pub record HasCurrent {D : Type 0} (c : Cache D) (current : ℕ → List ℕ) (d
   pub size : (b : ℕ) → b < c.geometry.blocks → length (current b) ≡ c.geometry.block_size
   pub whole : length device.content ≡ c.geometry.blocks * c.geometry.block_size
 
--- each buffer is free, queued, lent or in transfer
+-- each buffer is free, queued, lent or in transfer; one that is queued has its bytes in
 pub record OneState {D : Type 0} (s : State D) (views : List View) : Type 0 where
   pub once : (k : ℕ) → times k s.core.free + times k s.requests.waiting + sum_by (outs k) views ≡ one_if (nat_lt k (length s.core.buffers))
+  pub queued : (k : ℕ) → 0 < times k s.requests.waiting → IsSome (buffer_at s.core k).bytes
 
 -- the device is at home, or out with one pass
 pub record OneDevice {D : Type 0} (c : Cache D) (views : List View) : Type 0 where
@@ -96,10 +97,12 @@ pub record IsRunning {D : Type 0} (seen : D → Device) (s : State D) (views : L
   pub faults_caused : FaultsCaused kept.opening kept.device views
   pub one_worker : sum_by workers views ≡ 1
 
--- a stake may stand for this view: it notes lines of the disk, and nothing is in transfer
+-- a stake may stand for this view: it notes lines of the disk, each once, it is not the worker's, and nothing is in transfer
 pub record IsFit (v : View) : Type 0 where
   pub sizes : IsGeometry v.opening.sizes
   pub range : InRange v.opening.sizes (held_of v.lines)
   pub some : 0 < weight v
   pub calm : v.moving ≡ None
   pub home : v.device ≡ None
+  pub once : (b l : ℕ) → hits b l v ≤ 1
+  pub no_worker : v.workers ≡ 0

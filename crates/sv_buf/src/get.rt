@@ -1,5 +1,5 @@
-// How a block is got and lent (Bach, chapter 3.3, getblk, and chapter 3.4, bread).
-ghost use Rattle.std.specs.Prelude.{◌≡◌, ◌+◌, ◌++◌, ◌∷◌, [], ◌<◌, ℕ, List, length, true, false, None, Some, IfOk, IfErr, vec_len};
+// How a block is read and lent (Bach, chapter 3.4, bread).
+ghost use Rattle.std.specs.Prelude.{◌≡◌, ◌+◌, ◌<◌, ℕ, List, length, true, false, None, Some, IfOk, IfErr, vec_len};
 ghost use Rattle.sv_turn.specs.Passes.{pass_view, IsOut, IsPassOf, IsSamePass, turn_events};
 ghost use Rattle.sv_cache.specs.Cache.{buffer_at};
 ghost use Rattle.sv_store.specs.Calls.{Gets};
@@ -9,15 +9,16 @@ ghost use Rattle.sv_buf.specs.Changes.{calm_view, moving_view, lent_view, failed
 ghost use Rattle.sv_buf.specs.Running.{IsRunning, IsFit, seen_by};
 ghost use Rattle.sv_buf.specs.Pending.{IsPending};
 
-use crate::event::{ANY_BUFFER, DEVICE, FIRST_BUFFER, WORKER};
-use crate::leave::{leave_with, sleep_with};
+use crate::event::{ANY_BUFFER, DEVICE, FIRST_BUFFER};
+use crate::getblk::getblk;
+use crate::leave::leave_with;
 use crate::medium::Medium;
 use crate::read::{fetch_device, read_block};
 use crate::rule::Running;
 use crate::state::State;
 use std::marker::Brand;
 use std::sync::Wait;
-use sv_cache::{Release, Scenario};
+use sv_cache::Release;
 use sv_store::{Buf, Refusal};
 use sv_turn::{Pass, Turn};
 
@@ -136,21 +137,7 @@ fn lend_or_read<R: Wait, D: Medium>(
     read_in(rt, turn, pass, state, buffer, block, bytes)
 }
 
-// Asks the worker to write a buffer that was met at the head of the free list.
-fn ask<D: Medium>(turn: &Turn<Running<D>>, mut state: State<D>, buffer: u32) -> State<D>
-    requires room { length state.requests.waiting < state.requests.capacity }
-    requires events { 2 < turn_events turn.now }
-    ensures { result ≡ record state { requests = record state.requests { waiting = state.requests.waiting ++ buffer ∷ [] } } }
-{
-    match state.requests.push(buffer) {
-        Ok(()) => {}
-        Err(_) => unreachable!(),
-    }
-    turn.wake(WORKER);
-    state
-}
-
-// Gets the buffer of a block and lends its bytes. Where it has to wait it sleeps, and looks again.
+// Gets the buffer of a block and lends its bytes.
 pub fn get<R: Wait, D: Medium>(
     rt: &R,
     turn: &Turn<Running<D>>,
@@ -168,28 +155,6 @@ pub fn get<R: Wait, D: Medium>(
         (held_of (pass_view pass.old).lines) block buf) }
     ensures err { IfErr result (λ e. (e ≡ Fault) × (pass_view pass.new ≡ failed_view (calm_view (pass_view pass.old)))) }
 {
-    let mut state = turn.enter(rt, pass);
-    for _ in rt.forever() {
-        match state.core.attempt(block) {
-            Scenario::Hit(buffer) => {
-                let bytes = state.core.lend(buffer);
-                return lend_or_read(rt, turn, pass, state, buffer, block, bytes);
-            }
-            Scenario::Taken(buffer) => {
-                let bytes = state.core.lend(buffer);
-                return read_in(rt, turn, pass, state, buffer, block, bytes);
-            }
-            Scenario::Delayed(buffer) => {
-                state = ask(turn, state, buffer);
-            }
-            Scenario::Empty => {
-                state = sleep_with::<Brand, R, D>(rt, turn, pass, state, ANY_BUFFER, 0, block);
-            }
-            Scenario::Busy(buffer) => {
-                let event = FIRST_BUFFER + buffer;
-                state = sleep_with::<Brand, R, D>(rt, turn, pass, state, event, buffer, block);
-            }
-        }
-    }
-    unreachable!()
+    let (state, buffer, bytes) = getblk(rt, turn, pass, block);
+    lend_or_read(rt, turn, pass, state, buffer, block, bytes)
 }

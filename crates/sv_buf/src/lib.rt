@@ -6,8 +6,11 @@
 #![tactic(auto)]
 
 mod cache;
+mod delay;
 mod event;
+mod fresh;
 mod get;
+mod getblk;
 mod give;
 mod leave;
 mod medium;
@@ -16,6 +19,7 @@ mod rule;
 mod stake;
 mod state;
 mod view;
+mod write;
 
 pub use cache::{Cache, CachePass};
 pub use rule::Running;

@@ -1,5 +1,5 @@
 // A stake over the cache.
-ghost use Rattle.std.specs.Prelude.{◌≡◌, ◌<◌, ◌^◌, ◌||◌, false, IfOk, OnOk, OnErr, IsErrOf};
+ghost use Rattle.std.specs.Prelude.{◌≡◌, ◌<◌, ◌^◌, ◌||◌, true, false, IfOk, OnOk, OnErr, IsErrOf};
 ghost use Rattle.sv_turn.specs.Passes.{pass_view, IsOut, IsPassOf, IsSamePass, first_view};
 ghost use Rattle.sv_dev.specs.Causes.{counted};
 ghost use Rattle.sv_store.specs.declared.refusal.Refusal.TheVariants.{NoMemory};
@@ -7,17 +7,19 @@ ghost use Rattle.sv_buf.specs.Parting.{IsCut};
 ghost use Rattle.std.proofs.Props.{props};
 ghost use Rattle.sv_form.specs.Geometry.{IsGeometry};
 ghost use Rattle.sv_store.specs.Held.{InRange, Both, put, with, without, nothing_lent};
-ghost use Rattle.sv_store.specs.Calls.{CanGet, Gets, CanReturn, CanPut, CanPart, Parts, CanMerge};
+ghost use Rattle.sv_store.specs.Calls.{CanGet, CanFresh, Gets, GetsZeros, CanReturn, CanPut, CanPart, Parts, CanMerge};
 ghost use Rattle.sv_store.specs.Causes.{HasFault};
 ghost use Rattle.sv_buf.specs.Running.{IsFit};
 ghost use Rattle.sv_buf.specs.Stake.{pass_held, pass_lent, pass_faults, pass_forced, pass_origin};
 
 use crate::cache::{Cache, CachePass};
+use crate::fresh::get_zeros;
 use crate::get::get;
 use crate::give::{take_back, take_put};
 use crate::medium::Medium;
 use crate::rule::Running;
 use crate::view::View;
+use crate::write::put_now;
 use std::alloc::{AllocError, Global};
 use std::marker::Brand;
 use std::sync::Wait;
@@ -60,6 +62,21 @@ impl<'a, D: Medium> CacheStake<'a, D> {
         get(rt, &self.cache.turn, &mut self.pass, b)
     }
 
+    /// Lends a block of zero bytes, which are its bytes from then on; the block is not read.
+    pub fn fresh<R: Wait>(&mut self, rt: &R, b: u32) -> Result<Buf, Refusal>
+        requires { CanFresh (pass_origin self.old.pass) (pass_held self.old.pass) (pass_lent self.old.pass) b }
+        ensures ok { IfOk result (GetsZeros (pass_origin self.old.pass) b) }
+        ensures lends { IfOk result (λ buf. pass_lent self.new.pass ≡ with b buf.bytes (pass_lent self.old.pass)) }
+        ensures puts { IfOk result (λ buf. pass_held self.new.pass ≡ put b buf.bytes (pass_held self.old.pass)) }
+        ensures err { OnErr result (pass_lent self.new.pass ≡ pass_lent self.old.pass) }
+        ensures held { OnErr result (pass_held self.new.pass ≡ pass_held self.old.pass) }
+        ensures forced { pass_forced self.new.pass ≡ pass_forced self.old.pass }
+        ensures origin { pass_origin self.new.pass ≡ pass_origin self.old.pass }
+        ensures cause { HasFault (pass_faults self.old.pass) (pass_faults self.new.pass) result }
+    {
+        Ok(get_zeros(rt, &self.cache.turn, &mut self.pass, b))
+    }
+
     /// Takes a block back unchanged (Bach, algorithm brelse). It runs no transfer, so no fault is counted.
     pub fn brelse<R: Wait>(&mut self, rt: &R, buf: Buf)
         requires { CanReturn (pass_lent self.old.pass) buf }
@@ -83,6 +100,19 @@ impl<'a, D: Medium> CacheStake<'a, D> {
         ensures faults { pass_faults self.new.pass ≡ pass_faults self.old.pass }
     {
         take_put(rt, &self.cache.turn, &mut self.pass, buf);
+    }
+
+    /// Takes a block back with new bytes and writes it at once (Bach, algorithm bwrite). After a fault the held lines
+    /// have the new bytes all the same, and the block stays to be written.
+    pub fn bwrite<R: Wait>(&mut self, rt: &R, buf: Buf) -> Result<(), Refusal>
+        requires { CanPut (pass_held self.old.pass) (pass_lent self.old.pass) buf }
+        ensures held { pass_held self.new.pass ≡ put buf.block buf.bytes (pass_held self.old.pass) }
+        ensures lends { pass_lent self.new.pass ≡ without buf.block (pass_lent self.old.pass) }
+        ensures forced { pass_forced self.new.pass ≡ true }
+        ensures origin { pass_origin self.new.pass ≡ pass_origin self.old.pass }
+        ensures cause { HasFault (pass_faults self.old.pass) (pass_faults self.new.pass) result }
+    {
+        put_now(rt, &self.cache.turn, &mut self.pass, buf)
     }
 
     /// Cuts lines off as a stake of their own. A refusal is want of memory.

@@ -6,6 +6,7 @@ use Rattle.sv_buf.specs.View.{View, held_of, lent_of}
 use Rattle.sv_buf.specs.Changes.{calm_view, lent_view}
 use Rattle.sv_buf.specs.Stake.{pass_held, pass_lent, pass_origin}
 use Rattle.sv_buf.proofs.Lists.{lent-with}
+use Rattle.sv_buf.proofs.Fitting.{fit-got}
 use Rattle.sv_buf.proofs.stake.CacheStake.bread.Goals as goal
 
 if_ok : {T E : Type 0} (r : Result T E) (P Q : T → Type 0) → ((x : T) → P x → Q x) → IfOk r P → IfOk r Q
@@ -26,3 +27,7 @@ returns-clause-lends g c =
     (λ buf. pass_lent c.get.new.pass ≡ with c.args.b buf.bytes (pass_lent c.args.self.now.pass))
     (λ buf lent. ap (λ (v : View). lent_of v.loans) lent.1 ∙ lent-with lent.0 c.args.b buf.bytes (pass_view c.args.self.now.pass).loans)
     c.get.ensures.view
+
+pub invariant_of-self-clause-fit : goal.invariant_of-self-clause-fit
+invariant_of-self-clause-fit g c = fit-got c.get.result (pass_view c.args.self.now.pass) (pass_view c.get.new.pass) c.args.b
+    c.get.ensures.view c.get.ensures.err c.args.self.now.fit

@@ -21,7 +21,7 @@ pub invariant_of-self-clause-fit : goal.invariant_of-self-clause-fit
 invariant_of-self-clause-fit g c =
     let same = origin-same c.args.self.now.cache.now.turn c.args.self.now.pass c.args.other.pass c.args.self.now.own c.requires.origin in
     fit-merged (pass_view c.args.self.now.pass) (pass_view c.args.other.pass) (pass_view c.join.new.pass) c.join.ensures.view same.0
-    c.args.self.now.fit c.args.other.fit
+    c.requires.lines.apart c.args.self.now.fit c.args.other.fit
 
 pub returns-clause-held : goal.returns-clause-held
 returns-clause-held g c = ap (λ (v : View). held_of v.lines) c.join.ensures.view

@@ -1,8 +1,14 @@
 use Rattle.std.proofs.Common.{◌≡◌}
 use Rattle.sv_turn.specs.Passes.{pass_view, IsPassOf, IsSamePass}
+use Rattle.sv_buf.specs.Changes.{device_view}
 use Rattle.sv_buf.specs.Running.{IsRunning, seen_by}
 use Rattle.sv_buf.specs.Pending.{IsPending}
-use Rattle.sv_buf.proofs.get.get.Given as goal
+use Rattle.sv_buf.proofs.write.fetch.Given as goal
+
+abbrev pub ghosts-leave_with_device : goal.ghosts-leave_with_device
+ghosts-leave_with_device g a = record {
+  next = λ v. device_view (seen_by g.D.Medium.content g.D.Medium.reads g.D.Medium.writes g.D.Medium.faults a.disk.now) v;
+}
 
 abbrev pub invariant-loop : goal.invariant-loop
 invariant-loop g l = IsPassOf l.turn l.pass × IsSamePass l.fn.pass l.pass × (pass_view l.pass ≡ pass_view l.fn.pass)
