@@ -18,9 +18,13 @@ mod HeldInode
 mod HeldPages
 mod HeldTree
 mod Hits
+mod HomeStakes
 mod InodeStands
 mod JoinedTimes
+mod Locking
+mod Moves
 mod NodePages
+mod NotedLines
 mod OwnBlocks
 mod OwnClose
 mod PurgedAtRest

@@ -1,9 +1,13 @@
+pub mod Adding
 pub mod ConverseChain
 pub mod ConverseInodes
 pub mod ConverseLines
 pub mod ConverseNames
 pub mod ConversePages
 pub mod ConverseSound
+pub mod FileRule
 pub mod FromImage
+pub mod Laws
 pub mod NodeBlocks
 pub mod RoundTrip
+pub mod View

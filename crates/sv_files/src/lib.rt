@@ -15,8 +15,15 @@
 #![tactic(auto)]
 
 mod converse;
+mod event;
 mod from_image;
+mod in_core;
+mod lock;
 mod node_blocks;
+mod rule;
+mod stakes;
+mod state;
+mod view;
 
 pub use converse::{
     closed_is_sound, flushed_is_cached, flushed_is_chained, flushed_is_sized, nodes_are_named,
