@@ -1,3 +1,6 @@
+ghost use Rattle.std.specs.Prelude.{◌≡◌, IfOk};
+ghost use Rattle.sv_plain.specs.Fs.{empty_fs};
+
 mod history;
 mod legal;
 mod refused;
@@ -8,8 +11,21 @@ use crate::directory_bytes::first_page;
 use crate::page_need::page_need;
 use crate::{Fs, NoMemory, PairSet};
 use std::alloc::Global;
-use std::test::Fail;
 use sv_form::{Bytes, Geometry, Kind};
+
+// A file system of 64 blocks and 32 inodes that has nothing else.
+fn empty_fs(alloc: Global) -> Result<Box<Fs>, NoMemory>
+    ensures { IfOk result (λ fs. fs.value ≡ empty_fs (record { block_size = 1024; blocks = 64; first_data = 4 })) }
+{
+    let geometry = Geometry {
+        block_size: 1024,
+        blocks: 64,
+        first_data: 4,
+    };
+    let fs = Fs::new(alloc, geometry)?;
+    let fs = Box::new(alloc, fs)?;
+    Ok(fs)
+}
 
 // A file system of 64 blocks and 32 inodes with inode 3, a regular file whose one page, of sevens, is page 10.
 fn one_file(alloc: Global) -> Result<Fs, NoMemory> {
@@ -70,26 +86,22 @@ fn blocks_that_a_page_adds(rt: HostRuntime) {
         (0, 65_801, 3),
         (0, 65_802, 4),
     ] {
-        assert_eq!(rt;
-            added(rt.alloc(), first, second),
-            Ok(want),
-            "{first} and {second}"
-        );
+        assert!(rt; added(rt.alloc(), first, second) == Ok(want));
     }
 }
 
-// Directory 3, made in directory 258.
+// How many bytes the first page of directory 3 has, made in directory 258, and whether it begins with these.
+fn page_begins(alloc: Global, front: &[u8]) -> Result<(usize, bool), NoMemory> {
+    let page = first_page(alloc, 1024, 3, 258)?;
+    let bytes = page.as_slice();
+    Ok((bytes.len(), bytes.starts_with(front)))
+}
+
 #[test]
 fn first_page_of_a_directory(rt: HostRuntime) {
-    let Ok(page) = first_page(rt.alloc(), 1024, 3, 258) else {
-        assert!(rt; false);
-        return;
-    };
     let front = [
         3, 0, b'.', 0, 0, 0, 0, 0, 0, 0, 0, 0, 0, 0, 0, 0, 2, 1, b'.', b'.', 0, 0, 0, 0, 0, 0, 0,
         0, 0, 0, 0, 0, 0,
     ];
-    let bytes = page.as_slice();
-    assert_eq!(rt; bytes.len(), 1024);
-    assert!(rt; bytes.starts_with(&front));
+    assert!(rt; page_begins(rt.alloc(), &front) == Ok((1024, true)));
 }

@@ -3,40 +3,36 @@ ghost use Rattle.std.specs.Prelude.{◌≡◌, ◌≤◌, IfOk};
 ghost use Rattle.std.specs.FinMap as map;
 ghost use Rattle.sv_plain.specs.Whole.{IsWhole};
 
+use super::empty_fs;
 use crate::{Fs, Illegal, Mode, Need, NoMemory, Op, Reply, apply, begin, listing};
 use std::alloc::Global;
-use sv_form::{Bytes, Geometry, Kind, Name};
+use sv_form::{Bytes, Kind, Name};
 
 // The tree of a new image of 64 blocks and 32 inodes: the root alone.
-fn new_tree(alloc: Global) -> Result<Fs, NoMemory>
-    ensures whole { IfOk result IsWhole }
-    ensures references { IfOk result (λ fs. fs.references ≡ map.empty) }
-    ensures files { IfOk result (λ fs. fs.files ≡ map.empty) }
-    ensures promises { IfOk result (λ fs. fs.promises ≡ map.empty) }
-    ensures pending { IfOk result (λ fs. fs.pending ≡ map.empty) }
+fn new_tree(alloc: Global) -> Result<Box<Fs>, NoMemory>
+    ensures whole { IfOk result (λ fs. IsWhole fs.value) }
+    ensures references { IfOk result (λ fs. fs.value.references ≡ map.empty) }
+    ensures files { IfOk result (λ fs. fs.value.files ≡ map.empty) }
+    ensures promises { IfOk result (λ fs. fs.value.promises ≡ map.empty) }
+    ensures pending { IfOk result (λ fs. fs.value.pending ≡ map.empty) }
 {
-    let geometry = Geometry {
-        block_size: 1024,
-        blocks: 64,
-        first_data: 4,
-    };
-    let mut fs = Fs::new(alloc, geometry)?;
+    let mut fs = empty_fs(alloc)?;
     fs.add_directory(alloc, 2, 2, 0o755)?;
     Ok(fs)
 }
 
 // The same, with one process and so many places in the table.
-pub(super) fn begun(alloc: Global, table: u32) -> Result<Fs, NoMemory>
+pub(super) fn begun(alloc: Global, table: u32) -> Result<Box<Fs>, NoMemory>
     requires { 1 ≤ table }
-    ensures { IfOk result IsWhole }
+    ensures { IfOk result (λ fs. IsWhole fs.value) }
 {
     let mut fs = new_tree(alloc)?;
-    begin(alloc, &mut fs, 1, table)?;
+    begin(alloc, &mut *fs, 1, table)?;
     Ok(fs)
 }
 
 // Steps of process 1, one after another.
-pub(super) fn take_all(fs: &mut Fs, alloc: Global, steps: &[(Op, Reply)]) -> Result<(), Illegal>
+fn take_all(fs: &mut Fs, alloc: Global, steps: &[(Op, Reply)]) -> Result<(), Illegal>
     requires { IsWhole fs.old }
     ensures { IsWhole fs.new }
 {
@@ -44,6 +40,18 @@ pub(super) fn take_all(fs: &mut Fs, alloc: Global, steps: &[(Op, Reply)]) -> Res
         apply(alloc, fs, 1, op, reply)?;
     }
     Ok(())
+}
+
+// The same of a table, which ends with the call.
+pub(super) fn take<const N: usize>(
+    fs: &mut Fs,
+    alloc: Global,
+    steps: [(Op, Reply); N],
+) -> Result<(), Illegal>
+    requires { IsWhole fs.old }
+    ensures { IsWhole fs.new }
+{
+    take_all(fs, alloc, &steps)
 }
 
 fn promise(need: Need) -> Op {
@@ -91,8 +99,8 @@ pub(super) fn make(fs: &mut Fs, alloc: Global, home: Name, a: Name) -> Result<()
     requires { IsWhole fs.old }
     ensures { IsWhole fs.new }
 {
-    take_all(fs, alloc, &home_made(home))?;
-    take_all(fs, alloc, &file_made(home, a))
+    take(fs, alloc, home_made(home))?;
+    take(fs, alloc, file_made(home, a))
 }
 
 // Six bytes into the file.
@@ -182,35 +190,35 @@ fn run(fs: &mut Fs, alloc: Global) -> Result<(), Illegal>
     let (home, a) = (name(b"home")?, name(b"a")?);
     make(fs, alloc, home, a)?;
     let hello = bytes(alloc, b"hello\n")?;
-    take_all(fs, alloc, &filled(hello))?;
-    take_all(fs, alloc, &found(home, a))?;
+    take(fs, alloc, filled(hello))?;
+    take(fs, alloc, found(home, a))?;
     let ello = bytes(alloc, b"ello")?;
-    take_all(fs, alloc, &looked_at(ello))?;
-    take_all(fs, alloc, &ended(home))?;
+    take(fs, alloc, looked_at(ello))?;
+    take(fs, alloc, ended(home))?;
     apply(alloc, fs, 0, &Op::Purge, &Reply::Done)
 }
 
-// The text of the tree.
-pub(super) fn text_of(fs: &Fs, alloc: Global) -> Result<Vec<u8>, Illegal> {
+// The text of the tree is this one.
+pub(super) fn lists_as(fs: &Fs, alloc: Global, want: &[u8]) -> Result<bool, Illegal> {
     match listing(alloc, fs) {
-        Ok(text) => Ok(text),
+        Ok(text) => Ok(text.as_slice() == want),
         Err(_) => Err(Illegal::NoMemory),
     }
 }
 
-fn run_and_list(fs: &mut Fs, alloc: Global) -> Result<Vec<u8>, Illegal>
+fn run_and_list(fs: &mut Fs, alloc: Global, want: &[u8]) -> Result<bool, Illegal>
     requires { IsWhole fs.old }
 {
     run(fs, alloc)?;
-    text_of(fs, alloc)
+    lists_as(fs, alloc, want)
 }
 
-// What the history leaves.
-fn listed(alloc: Global) -> Result<Vec<u8>, Illegal> {
+// The history leaves this listing.
+fn leaves(alloc: Global, want: &[u8]) -> Result<bool, Illegal> {
     let Ok(mut fs) = begun(alloc, 100) else {
         return Err(Illegal::NoMemory);
     };
-    run_and_list(&mut fs, alloc)
+    run_and_list(&mut *fs, alloc, want)
 }
 
 #[test]
@@ -219,8 +227,5 @@ fn a_history_leaves_its_listing(rt: HostRuntime) {
 inode 3 d 755 links 2 size 48 pages 1
 inode 4 f 644 links 1 size 6 pages 1
 ";
-    match listed(rt.alloc()) {
-        Ok(text) => assert_eq!(rt; text.as_slice(), want.as_slice()),
-        Err(_) => assert!(rt; false),
-    }
+    assert!(rt; leaves(rt.alloc(), want.as_slice()) == Ok(true));
 }

@@ -1,7 +1,7 @@
 // Every reply of every op is taken where it is due, none with want of memory.
 ghost use Rattle.sv_plain.specs.Whole.{IsWhole};
 
-use super::history::{begun, bytes, make, name, take_all, text_of};
+use super::history::{begun, bytes, lists_as, make, name, take};
 use crate::{Fs, Illegal, Mode, Need, Op, Reply, apply};
 use std::alloc::Global;
 use sv_form::{Bytes, Kind, Name};
@@ -237,12 +237,12 @@ fn names_taken(fs: &mut Fs, alloc: Global) -> Result<(), Illegal>
 {
     let (home, a, b, c) = (name(b"home")?, name(b"a")?, name(b"b")?, name(b"c")?);
     make(fs, alloc, home, a)?;
-    take_all(fs, alloc, &linked(b))?;
-    take_all(fs, alloc, &unfit(home, b, c))?;
-    take_all(fs, alloc, &unlinked(home, a, b))?;
-    take_all(fs, alloc, &freed(a))?;
-    take_all(fs, alloc, &removed(home, a))?;
-    take_all(fs, alloc, &unentered(a, b))
+    take(fs, alloc, linked(b))?;
+    take(fs, alloc, unfit(home, b, c))?;
+    take(fs, alloc, unlinked(home, a, b))?;
+    take(fs, alloc, freed(a))?;
+    take(fs, alloc, removed(home, a))?;
+    take(fs, alloc, unentered(a, b))
 }
 
 // The file that they leave, and what is left behind.
@@ -251,56 +251,52 @@ fn files_taken(fs: &mut Fs, alloc: Global) -> Result<(), Illegal>
     ensures { IsWhole fs.new }
 {
     let (a, b) = (name(b"a")?, name(b"b")?);
-    take_all(fs, alloc, &opened(a))?;
+    take(fs, alloc, opened(a))?;
     let hello = bytes(alloc, b"hello\n")?;
-    take_all(fs, alloc, &filled(hello))?;
-    take_all(fs, alloc, &emptied(a))?;
-    take_all(fs, alloc, &faults(a))?;
-    take_all(fs, alloc, &left_behind(a, b))?;
-    take_all(fs, alloc, &closed_late())
+    take(fs, alloc, filled(hello))?;
+    take(fs, alloc, emptied(a))?;
+    take(fs, alloc, faults(a))?;
+    take(fs, alloc, left_behind(a, b))?;
+    take(fs, alloc, closed_late())
 }
 
 // The free blocks and inodes, three times.
 type Numbers = ((u32, u32), (u32, u32), (u32, u32));
 
-// What is left at the end, the free blocks and inodes before and after the end, and the text then.
-fn purged(fs: &mut Fs, alloc: Global) -> Result<(Numbers, Vec<u8>), Illegal>
+// The free blocks and inodes before and after the end, and whether the text then is this one.
+fn purged(fs: &mut Fs, alloc: Global, want: &[u8]) -> Result<(Numbers, bool), Illegal>
     requires { IsWhole fs.old }
 {
     let before = fs.numbers();
     apply(alloc, fs, 0, &Op::Purge, &Reply::LateMemory)?;
     let late = fs.numbers();
     apply(alloc, fs, 0, &Op::Purge, &Reply::Done)?;
-    let text = text_of(fs, alloc)?;
-    Ok(((before, late, fs.numbers()), text))
+    let after = fs.numbers();
+    let is_so = lists_as(fs, alloc, want)?;
+    Ok(((before, late, after), is_so))
 }
 
-fn all_taken(fs: &mut Fs, alloc: Global) -> Result<(Numbers, Vec<u8>), Illegal>
+fn all_taken(fs: &mut Fs, alloc: Global, want: &[u8]) -> Result<(Numbers, bool), Illegal>
     requires { IsWhole fs.old }
 {
     names_taken(fs, alloc)?;
     files_taken(fs, alloc)?;
-    purged(fs, alloc)
+    purged(fs, alloc, want)
 }
 
-fn taken_in_new_tree(alloc: Global) -> Result<(Numbers, Vec<u8>), Illegal> {
+fn taken_in_new_tree(alloc: Global, want: &[u8]) -> Result<(Numbers, bool), Illegal> {
     let Ok(mut fs) = begun(alloc, 100) else {
         return Err(Illegal::NoMemory);
     };
-    all_taken(&mut fs, alloc)
+    all_taken(&mut *fs, alloc, want)
 }
 
 // 60 data blocks, of which the root has one, and 31 numbers from 2 on. Two files without names stay until the end.
 #[test]
 fn each_reply(rt: HostRuntime) {
     let want = b"inode 2 d 755 links 2 size 64 pages 1\n";
-    match taken_in_new_tree(rt.alloc()) {
-        Ok((numbers, text)) => {
-            assert_eq!(rt; numbers, ((59, 28), (59, 28), (59, 30)));
-            assert_eq!(rt; text.as_slice(), want.as_slice());
-        }
-        Err(_) => assert!(rt; false),
-    }
+    let numbers = ((59, 28), (59, 28), (59, 30));
+    assert!(rt; taken_in_new_tree(rt.alloc(), want.as_slice()) == Ok((numbers, true)));
 }
 
 // Two places in the table, of the root and of one file; then of the root and of another.
@@ -321,15 +317,15 @@ fn full_taken(fs: &mut Fs, alloc: Global) -> Result<(), Illegal>
     ensures { IsWhole fs.new }
 {
     let (a, b) = (name(b"a")?, name(b"b")?);
-    take_all(fs, alloc, &full(a, b))?;
-    take_all(fs, alloc, &[(rmdir(2, a), Reply::Full)])
+    take(fs, alloc, full(a, b))?;
+    take(fs, alloc, [(rmdir(2, a), Reply::Full)])
 }
 
 fn full_in_new_tree(alloc: Global) -> Result<(), Illegal> {
     let Ok(mut fs) = begun(alloc, 2) else {
         return Err(Illegal::NoMemory);
     };
-    full_taken(&mut fs, alloc)
+    full_taken(&mut *fs, alloc)
 }
 
 #[test]
@@ -357,16 +353,16 @@ fn all_inodes(fs: &mut Fs, alloc: Global) -> Result<(), Illegal>
 {
     for k in 3..33 {
         let name = numbered(k)?;
-        take_all(fs, alloc, &made_and_dropped(k, name))?;
+        take(fs, alloc, made_and_dropped(k, name))?;
     }
-    take_all(fs, alloc, &[(create(name(b"more")?), Reply::NoInode)])
+    take(fs, alloc, [(create(name(b"more")?), Reply::NoInode)])
 }
 
 fn inodes_in_new_tree(alloc: Global) -> Result<(), Illegal> {
     let Ok(mut fs) = begun(alloc, 100) else {
         return Err(Illegal::NoMemory);
     };
-    all_inodes(&mut fs, alloc)
+    all_inodes(&mut *fs, alloc)
 }
 
 #[test]
@@ -407,11 +403,11 @@ fn hundred_links(fs: &mut Fs, alloc: Global, dir: u16) -> Result<(), Illegal>
     requires { IsWhole fs.old }
     ensures { IsWhole fs.new }
 {
-    take_all(fs, alloc, &directory_made(dir, numbered(dir)?))?;
+    take(fs, alloc, directory_made(dir, numbered(dir)?))?;
     let skipped = u16::from(dir == 4);
     for k in skipped..100 {
         let name = numbered(k)?;
-        take_all(fs, alloc, &linked_again(dir, k - skipped, name))?;
+        take(fs, alloc, linked_again(dir, k - skipped, name))?;
     }
     Ok(())
 }
@@ -421,18 +417,18 @@ fn all_links(fs: &mut Fs, alloc: Global) -> Result<(), Illegal>
     requires { IsWhole fs.old }
     ensures { IsWhole fs.new }
 {
-    take_all(fs, alloc, &[(create(name(b"a")?), Reply::Made(3))])?;
+    take(fs, alloc, [(create(name(b"a")?), Reply::Made(3))])?;
     for k in 4..14 {
         hundred_links(fs, alloc, k)?;
     }
-    take_all(fs, alloc, &[(Op::AddLink { ino: 3 }, Reply::ManyLinks)])
+    take(fs, alloc, [(Op::AddLink { ino: 3 }, Reply::ManyLinks)])
 }
 
 fn links_in_new_tree(alloc: Global) -> Result<(), Illegal> {
     let Ok(mut fs) = begun(alloc, 100) else {
         return Err(Illegal::NoMemory);
     };
-    all_links(&mut fs, alloc)
+    all_links(&mut *fs, alloc)
 }
 
 #[test]

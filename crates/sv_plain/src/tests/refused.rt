@@ -1,7 +1,7 @@
 // Steps that are refused, each with its cause: a condition that does not hold, or a reply that never comes.
 ghost use Rattle.sv_plain.specs.Whole.{IsWhole};
 
-use super::history::{begun, make, name, take_all};
+use super::history::{begun, make, name, take};
 use crate::{Fs, Illegal, Mode, Need, Op, Reply, apply};
 use std::alloc::Global;
 use sv_form::{Bytes, Kind, Name};
@@ -25,6 +25,14 @@ fn first_unlike(fs: &mut Fs, alloc: Global, steps: &[Refusal]) -> Option<usize>
         }
     }
     None
+}
+
+// The same of a table, which ends with the call.
+fn unlike<const N: usize>(fs: &mut Fs, alloc: Global, steps: [Refusal; N]) -> Option<usize>
+    requires { IsWhole fs.old }
+    ensures { IsWhole fs.new }
+{
+    first_unlike(fs, alloc, &steps)
 }
 
 // A name looked up, and a reference given back.
@@ -213,6 +221,24 @@ fn writes(long: Bytes, six: Bytes, others: Bytes) -> [Refusal; 3] {
     ]
 }
 
+fn unlike_read(fs: &mut Fs, alloc: Global) -> Result<Option<usize>, Illegal>
+    requires { IsWhole fs.old }
+    ensures { IsWhole fs.new }
+{
+    let more = sevens(alloc, 1)?;
+    Ok(unlike(fs, alloc, reads(more)))
+}
+
+fn unlike_write(fs: &mut Fs, alloc: Global) -> Result<Option<usize>, Illegal>
+    requires { IsWhole fs.old }
+    ensures { IsWhole fs.new }
+{
+    let long = sevens(alloc, 1025)?;
+    let six = sevens(alloc, 6)?;
+    let others = sevens(alloc, 6)?;
+    Ok(unlike(fs, alloc, writes(long, six, others)))
+}
+
 // Where directory 3 is `home` in the root, and file 4 is `a` in it, and process 1 refers to the root twice and to file 4:
 // the tables of names, and in each the first step that is not refused.
 fn names_refused(fs: &mut Fs, alloc: Global) -> Result<[Option<usize>; 6], Illegal>
@@ -223,12 +249,12 @@ fn names_refused(fs: &mut Fs, alloc: Global) -> Result<[Option<usize>; 6], Illeg
     let (dot, dots) = (name(b".")?, name(b"..")?);
     make(fs, alloc, home, a)?;
     Ok([
-        first_unlike(fs, alloc, &looks(home, a)),
-        first_unlike(fs, alloc, &makings(home, b)),
-        first_unlike(fs, alloc, &unlinks(home, a, dot)),
-        first_unlike(fs, alloc, &rmdirs(home, dots)),
-        first_unlike(fs, alloc, &links(b)),
-        first_unlike(fs, alloc, &others(a)),
+        unlike(fs, alloc, looks(home, a)),
+        unlike(fs, alloc, makings(home, b)),
+        unlike(fs, alloc, unlinks(home, a, dot)),
+        unlike(fs, alloc, rmdirs(home, dots)),
+        unlike(fs, alloc, links(b)),
+        unlike(fs, alloc, others(a)),
     ])
 }
 
@@ -239,8 +265,8 @@ fn pending_refused(fs: &mut Fs, alloc: Global) -> Result<Option<usize>, Illegal>
 {
     let (home, a, b) = (name(b"home")?, name(b"a")?, name(b"b")?);
     make(fs, alloc, home, a)?;
-    take_all(fs, alloc, &[(Op::AddLink { ino: 4 }, Reply::Raised)])?;
-    Ok(first_unlike(fs, alloc, &pending_links(home, b)))
+    take(fs, alloc, [(Op::AddLink { ino: 4 }, Reply::Raised)])?;
+    Ok(unlike(fs, alloc, pending_links(home, b)))
 }
 
 // The same, where file 4 is open as file 0, with a block promised.
@@ -254,15 +280,11 @@ fn files_refused(fs: &mut Fs, alloc: Global) -> Result<[Option<usize>; 4], Illeg
         (open(4, Mode::RW), Reply::Opened(0)),
         (promise_write(6), Reply::Granted(1)),
     ];
-    take_all(fs, alloc, &opened)?;
-    let reads = reads(sevens(alloc, 1)?);
-    let (long, six, others) = (sevens(alloc, 1025)?, sevens(alloc, 6)?, sevens(alloc, 6)?);
-    Ok([
-        first_unlike(fs, alloc, &openings()),
-        first_unlike(fs, alloc, &offsets()),
-        first_unlike(fs, alloc, &reads),
-        first_unlike(fs, alloc, &writes(long, six, others)),
-    ])
+    take(fs, alloc, opened)?;
+    let (opening, offset) = (unlike(fs, alloc, openings()), unlike(fs, alloc, offsets()));
+    let read = unlike_read(fs, alloc)?;
+    let write = unlike_write(fs, alloc)?;
+    Ok([opening, offset, read, write])
 }
 
 // A purge that came late, where nothing is referred to and nothing is lost.
@@ -274,7 +296,7 @@ fn late_purge(fs: &mut Fs, alloc: Global) -> Result<Option<Illegal>, Illegal>
         (Op::Drop { ino: 2 }, Reply::Kept),
         (Op::Drop { ino: 2 }, Reply::Kept),
     ];
-    take_all(fs, alloc, &ended)?;
+    take(fs, alloc, ended)?;
     Ok(apply(alloc, fs, 0, &Op::Purge, &Reply::Late).err())
 }
 
@@ -283,28 +305,28 @@ fn names_in_new_tree(alloc: Global) -> Result<[Option<usize>; 6], Illegal> {
     let Ok(mut fs) = begun(alloc, 100) else {
         return Err(Illegal::NoMemory);
     };
-    names_refused(&mut fs, alloc)
+    names_refused(&mut *fs, alloc)
 }
 
 fn pending_in_new_tree(alloc: Global) -> Result<Option<usize>, Illegal> {
     let Ok(mut fs) = begun(alloc, 100) else {
         return Err(Illegal::NoMemory);
     };
-    pending_refused(&mut fs, alloc)
+    pending_refused(&mut *fs, alloc)
 }
 
 fn files_in_new_tree(alloc: Global) -> Result<[Option<usize>; 4], Illegal> {
     let Ok(mut fs) = begun(alloc, 100) else {
         return Err(Illegal::NoMemory);
     };
-    files_refused(&mut fs, alloc)
+    files_refused(&mut *fs, alloc)
 }
 
 fn late_in_new_tree(alloc: Global) -> Result<Option<Illegal>, Illegal> {
     let Ok(mut fs) = begun(alloc, 100) else {
         return Err(Illegal::NoMemory);
     };
-    late_purge(&mut fs, alloc)
+    late_purge(&mut *fs, alloc)
 }
 
 #[test]

@@ -25,9 +25,10 @@ are_sizes = record {
 }
 
 pub add_directory-requires-clause-absent : goal.add_directory-requires-clause-absent
-add_directory-requires-clause-absent c = ap (λ (fs : Fs). map.get fs.nodes 2) c.in_ok-fs.ensures ∙ map.get-empty nat_cmp 2
+add_directory-requires-clause-absent c = ap (λ (fs : Fs). map.get fs.nodes 2) (c.deref_mut.ensures.value ∙ c.in_ok-fs.ensures) ∙ map.get-empty nat_cmp 2
 
 pub returns-clause-whole : goal.returns-clause-whole
 unfolding sizes
 returns-clause-whole c =
-    subst IsWhole (sym (c.in_ok-add_directory.ensures.added ∙ ap (λ (fs : Fs). with_node fs 2 (new_node fs.block 2 2 493 Dir)) c.in_ok-fs.ensures)) (root-whole sizes are_sizes 493 (omega arith))
+    let is : c.deref_mut.result.now ≡ empty_fs sizes = c.deref_mut.ensures.value ∙ c.in_ok-fs.ensures in
+    subst IsWhole (sym (c.in_ok-add_directory.ensures.added ∙ ap (λ (fs : Fs). with_node fs 2 (new_node fs.block 2 2 493 Dir)) is)) (root-whole sizes are_sizes 493 (omega arith))
