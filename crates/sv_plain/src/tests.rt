@@ -1,4 +1,5 @@
-ghost use Rattle.std.specs.Prelude.{◌≡◌, IfOk};
+ghost use Rattle.std.specs.Prelude.{◌≡◌, ◌≤◌, None, IfOk};
+ghost use Rattle.std.specs.FinMap as map;
 ghost use Rattle.sv_plain.specs.Fs.{empty_fs};
 
 mod history;
@@ -27,42 +28,51 @@ fn empty_fs(alloc: Global) -> Result<Box<Fs>, NoMemory>
     Ok(fs)
 }
 
-// A file system of 64 blocks and 32 inodes with inode 3, a regular file whose one page, of sevens, is page 10.
-fn one_file(alloc: Global) -> Result<Fs, NoMemory> {
-    let mut fs = Fs::new(
-        alloc,
-        Geometry {
-            block_size: 1024,
-            blocks: 64,
-            first_data: 4,
-        },
-    )?;
-    fs.add_node(alloc, 3, Kind::File, 0o644, 1, 11_264)?;
-    let bytes = Bytes::from_vec(vec![in alloc; 7; 1024]?);
-    fs.put_page(alloc, 3, 10, bytes)?;
-    Ok(fs)
-}
-
 // The first byte of a page, where inode n has that page.
 fn first_byte(fs: &Fs, n: u16, page: u32) -> Option<u8> {
     let bytes = fs.node(n)?.page(page)?;
     bytes.first().copied()
 }
 
+// Whether inode 2 is there, the mode, the links and the size of inode 3, and first bytes: of pages 10 and 9 of inode 3,
+// and of page 10 of inode 2.
+type Parts = (bool, Option<(u16, u16, u32)>, [Option<u8>; 3]);
+
+fn parts(fs: &Fs) -> Parts {
+    let numbers = match fs.node(3) {
+        Some(node) => Some((node.mode, node.links, node.size)),
+        None => None,
+    };
+    let firsts = [
+        first_byte(fs, 3, 10),
+        first_byte(fs, 3, 9),
+        first_byte(fs, 2, 10),
+    ];
+    (fs.node(2).is_some(), numbers, firsts)
+}
+
+// Adds inode 3, a regular file whose one page, of sevens, is page 10.
+fn add_one_file(fs: &mut Fs, alloc: Global) -> Result<Parts, NoMemory>
+    requires inodes { 3 ≤ fs.old.inodes }
+    requires node { map.get fs.old.nodes 3 ≡ None }
+    requires block { fs.old.block ≡ 1024 }
+{
+    fs.add_node(alloc, 3, Kind::File, 0o644, 1, 11_264)?;
+    let bytes = Bytes::from_vec(vec![in alloc; 7; 1024]?);
+    fs.put_page(alloc, 3, 10, bytes)?;
+    Ok(parts(fs))
+}
+
+// The same in the empty file system.
+fn one_file(alloc: Global) -> Result<Parts, NoMemory> {
+    let mut fs = empty_fs(alloc)?;
+    add_one_file(&mut *fs, alloc)
+}
+
 #[test]
 fn nodes_and_pages(rt: HostRuntime) {
-    let Ok(fs) = one_file(rt.alloc()) else {
-        assert!(rt; false);
-        return;
-    };
-    assert!(rt; fs.node(2).is_none());
-    assert_eq!(rt;
-        fs.node(3).map(|n| (n.mode, n.links, n.size)),
-        Some((0o644, 1, 11_264))
-    );
-    assert_eq!(rt; first_byte(&fs, 3, 10), Some(7));
-    assert_eq!(rt; first_byte(&fs, 3, 9), None);
-    assert_eq!(rt; first_byte(&fs, 2, 10), None);
+    let want = (false, Some((0o644, 1, 11_264)), [Some(7), None, None]);
+    assert!(rt; one_file(rt.alloc()) == Ok(want));
 }
 
 // How many blocks the second page adds to those of the first, with 256 numbers in an indirect block.

@@ -1,23 +1,8 @@
-use Rattle.std.proofs.Common.{◌≡◌, Some, IsSome, option_and_then, sym, ap, subst, refl, ◌∙◌}
+use Rattle.std.proofs.Common.{ap, ◌∙◌}
 use Rattle.std.specs.Ordering.{nat_cmp}
-use Rattle.std.specs.Cmp.{nat_cmp_total}
 use Rattle.std.specs.FinMap as map
-use Rattle.sv_form.specs.Node.{Node}
-use Rattle.sv_form.specs.declared.kind.Kind.TheVariants.{File}
-use Rattle.sv_plain.specs.Fs.{Fs, node_without_pages}
+use Rattle.sv_plain.specs.Fs.{Fs}
 use Rattle.sv_plain.proofs.tests.one_file.Goals as goal
 
-pub add_node-requires-clause-absent : goal.add_node-requires-clause-absent
-add_node-requires-clause-absent c = ap (λ (fs : Fs). map.get fs.nodes 3) c.in_ok-fs.ensures ∙ map.get-empty nat_cmp 3
-
-pub put_page-requires-clause-there : goal.put_page-requires-clause-there
-put_page-requires-clause-there c =
-    let there : map.get c.add_node.new.self.nodes 3 ≡ Some (node_without_pages File 420 1 11264) =
-    ap (λ (fs : Fs). map.get fs.nodes 3) c.in_ok-add_node.ensures.added ∙ map.get-insert nat_cmp_total c.in_ok-fs.fs.nodes 3 (node_without_pages File 420 1 11264) 3 in
-    subst IsSome (sym there) refl
-
-pub put_page-requires-clause-absent : goal.put_page-requires-clause-absent
-put_page-requires-clause-absent c =
-    let there : map.get c.add_node.new.self.nodes 3 ≡ Some (node_without_pages File 420 1 11264) =
-    ap (λ (fs : Fs). map.get fs.nodes 3) c.in_ok-add_node.ensures.added ∙ map.get-insert nat_cmp_total c.in_ok-fs.fs.nodes 3 (node_without_pages File 420 1 11264) 3 in
-    ap (λ o. option_and_then (λ (n : Node). map.get n.pages 10) o) there ∙ map.get-empty nat_cmp 10
+pub add_one_file-requires-clause-node : goal.add_one_file-requires-clause-node
+add_one_file-requires-clause-node c = ap (λ (fs : Fs). map.get fs.nodes 3) (c.deref_mut.ensures.value ∙ c.in_ok-fs.ensures) ∙ map.get-empty nat_cmp 3
