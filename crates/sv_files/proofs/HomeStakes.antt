@@ -1,5 +1,5 @@
 -- The stakes at home, after one of them changes.
-use Rattle.std.proofs.Common.{◌≡◌, ◌≢◌, ◌+◌, ◌<◌, ℕ, zero, suc, List, [], ◌∷◌, length, set, Option, Some, None, refl, sym, ap, arith}
+use Rattle.std.proofs.Common.{◌≡◌, ◌≢◌, ◌+◌, ◌<◌, ℕ, zero, suc, List, [], ◌∷◌, length, set, Option, Some, None, refl, ap, arith}
 use Rattle.std.specs.List.{slice_index_or}
 use Rattle.sv_turn.specs.Turning.{total}
 use Rattle.sv_files.specs.FileRule.{home_at}

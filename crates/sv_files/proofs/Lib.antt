@@ -1,3 +1,4 @@
+mod Answering
 mod ChainCuts
 mod ConverseChain
 mod ConverseDots
@@ -11,6 +12,7 @@ mod ConverseTree
 mod ConverseWalk
 mod CountedTests
 mod EachReached
+mod Ending
 mod FreeChainHeld
 mod FreeInodes
 mod HeldBytes
@@ -21,6 +23,7 @@ mod Hits
 mod HomeStakes
 mod InodeStands
 mod JoinedTimes
+mod LineRead
 mod Locking
 mod Moves
 mod NodePages
@@ -32,6 +35,7 @@ mod RangeTests
 mod RestedNodes
 mod SoundAtRest
 mod SpotPaths
+mod StatLegal
 mod TreeCodes
 mod TreeNeeds
 mod TreeRows

@@ -1,5 +1,6 @@
 -- How a stake goes from its home to a lock and back, and how an entry is added: the rule's parts before and after.
-use Rattle.std.proofs.Common.{◌≡◌, ◌≢◌, ◌+◌, ◌-◌, ◌<◌, ◌≤◌, ◌==◌, ◌++◌, ℕ, Bool, true, false, cond, min, List, [], ◌∷◌, length, set, Option, Some, None, is_some, refl, sym, ap, subst, ◌∙◌, arith, add-zero}
+use Rattle.std.proofs.Common.{◌≡◌, ◌≢◌, ◌+◌, ◌-◌, ◌<◌, ◌≤◌, ◌==◌, ◌++◌, ℕ, Bool, true, false, cond, min, List, [], ◌∷◌, length, set}
+use Rattle.std.proofs.Common.{Option, Some, None, is_some, refl, sym, ap, subst, ◌∙◌, arith, add-zero}
 use Rattle.std.proofs.Math.Nat.{min-le_left, min-le_right, sub-add-min_cancel}
 use Rattle.std.proofs.lemmas.Bool.{cases_eq}
 use Rattle.std.proofs.lemmas.Bool.Decides.{nat_tests}
@@ -17,14 +18,13 @@ use Rattle.sv_plain.specs.declared.entry.Entry.{Entry}
 use Rattle.sv_plain.specs.Fs.{Fs}
 use Rattle.sv_plain.specs.Step.{Step}
 use Rattle.sv_plain.specs.History.{own}
-use Rattle.sv_plain.specs.Names.{references_of}
 use Rattle.sv_plain.specs.Totals.{one_if}
 use Rattle.sv_plain.proofs.HistorySteps.{leads-further, own-further}
 use Rattle.sv_files.specs.declared.in_core.InCore.{InCore}
-use Rattle.sv_files.specs.View.{Mount, Proc, Lock, Seen, Each, lock_seen, times}
-use Rattle.sv_files.specs.FileRule.{Agrees, Counted, Follows, Homes, IsAgreed, IsLocked, IsNodeOf, Lines, Parts, StandsAs, Unforced}
+use Rattle.sv_files.specs.View.{Mount, Proc, Lock, Seen, Each, lock_seen}
+use Rattle.sv_files.specs.FileRule.{Homes, IsAgreed, IsNodeOf, Parts, StandsAs}
 use Rattle.sv_files.specs.FileRule.{at_home, faulty, forcings, has_line, home_at, locks_on, names, over_all, proc_faults, syncs}
-use Rattle.sv_files.specs.Adding.{IsStill, answered, failed, rise}
+use Rattle.sv_files.specs.Adding.{IsStill, failed, rise}
 use Rattle.sv_files.specs.Laws.{total-append}
 use Rattle.sv_files.proofs.HomeStakes.{home-set, home-others, home-total, home-inside, length-placed}
 
@@ -65,7 +65,7 @@ own-other history e q other =
     off true is = absurd (omega (arith, turned e.process q is, other))
     off false is = refl
 
-none-of : {A : Type 0} (o : Option A) → one_if (is_some o) ≡ 0 → o ≡ None
+pub none-of : {A : Type 0} (o : Option A) → one_if (is_some o) ≡ 0 → o ≡ None
 none-of None e = refl
 none-of (Some x) e = absurd (omega (arith, e))
 
@@ -130,17 +130,21 @@ module _ {S : Type 0} where
       empty : home_at (set stakes n None) n ≡ None
       empty = home-set stakes n None (home-inside stakes n x at)
 
-      once : (i : ℕ) → one_if (is_some (home_at (set stakes n None) i)) + total (locks_on i) (k ∷ ks) ≡ one_if (map.contains_key h.fs.nodes i)
+      once : (i : ℕ)
+          → one_if (is_some (home_at (set stakes n None) i)) + total (locks_on i) (k ∷ ks) ≡ one_if (map.contains_key h.fs.nodes i)
       once i = elim (cases_eq i n) [
         | inl e ↦
             let old = h.homes.once i in
-            let gone : one_if (is_some (home_at (set stakes n None) i)) ≡ 0 = ap (λ j. one_if (is_some (home_at (set stakes n None) j))) e ∙ ap (λ o. one_if (is_some o)) empty in
-            let was : one_if (is_some (home_at stakes i)) ≡ 1 = ap (λ j. one_if (is_some (home_at stakes j))) e ∙ ap (λ o. one_if (is_some o)) at in
+            let gone : one_if (is_some (home_at (set stakes n None) i)) ≡ 0 =
+            ap (λ j. one_if (is_some (home_at (set stakes n None) j))) e ∙ ap (λ o. one_if (is_some o)) empty in
+            let was : one_if (is_some (home_at stakes i)) ≡ 1 =
+            ap (λ j. one_if (is_some (home_at stakes j))) e ∙ ap (λ o. one_if (is_some o)) at in
             let here : locks_on i k ≡ 1 = one-if-same k.number i (number ∙ sym e) in
             omega arith
         | inr apart ↦
             let old = h.homes.once i in
-            let stays : one_if (is_some (home_at (set stakes n None) i)) ≡ one_if (is_some (home_at stakes i)) = ap (λ o. one_if (is_some o)) (home-others stakes n i None apart) in
+            let stays : one_if (is_some (home_at (set stakes n None) i)) ≡ one_if (is_some (home_at stakes i)) =
+            ap (λ o. one_if (is_some o)) (home-others stakes n i None apart) in
             let none : locks_on i k ≡ 0 = one-if-apart k.number i (λ e. apart (sym e ∙ number)) in
             omega arith
       ]
@@ -152,7 +156,7 @@ module _ {S : Type 0} where
       ]
 
 -- what another stake with the same lines stands for
-stands-still : (o : Origin) (n : ℕ) (core : Option InCore) (z w : Seen) (node : Node) → w.held ≡ z.held → w.lent ≡ nothing_lent
+pub stands-still : (o : Origin) (n : ℕ) (core : Option InCore) (z w : Seen) (node : Node) → w.held ≡ z.held → w.lent ≡ nothing_lent
     → w.origin ≡ z.origin → StandsAs o n core z node → StandsAs o n core w node
 stands-still o n core z w node held lent origin s = record {
   body = s.body;
@@ -184,7 +188,7 @@ grow a r b c top e h =
     omega (arith, whole, left, right, e, h)
 
 -- what a process counts when a stake comes back
-faults-back : (ps rest home locks before now : ℕ) → before ≤ now → min ps last_count ≤ rest + (home + (before + locks))
+pub faults-back : (ps rest home locks before now : ℕ) → before ≤ now → min ps last_count ≤ rest + (home + (before + locks))
     → min (ps + rise before now) last_count ≤ rest + ((home + now) + locks)
 faults-back ps rest home locks before now low h = at (now == last_count) refl
   where
@@ -203,14 +207,14 @@ faults-back ps rest home locks before now low h = at (now == last_count) refl
 
 module _ {S : Type 0} where
   -- a stake that was locked comes home
-  over-home : (seen : S → Seen) (f : Seen → ℕ) (stakes : List (Option S)) (n : ℕ) (x : S) → home_at stakes n ≡ None → n < length stakes
+  pub over-home : (seen : S → Seen) (f : Seen → ℕ) (stakes : List (Option S)) (n : ℕ) (x : S) → home_at stakes n ≡ None → n < length stakes
       → total (at_home seen f) (set stakes n (Some x)) ≡ total (at_home seen f) stakes + f (seen x)
   over-home seen f stakes n x none inside =
       let moved = home-total (at_home seen f) stakes n (Some x) inside in
       let there : at_home seen f (home_at stakes n) ≡ 0 = ap (at_home seen f) none in
       omega arith
 
-  over-back : (seen : S → Seen) (f : Seen → ℕ) (rest : S) (stakes : List (Option S)) (ks : List Lock) (n : ℕ) (x : S) (k : Lock)
+  pub over-back : (seen : S → Seen) (f : Seen → ℕ) (rest : S) (stakes : List (Option S)) (ks : List Lock) (n : ℕ) (x : S) (k : Lock)
       → home_at stakes n ≡ None → n < length stakes → f (seen x) ≡ f (lock_seen k)
       → over_all seen f rest (set stakes n (Some x)) ks ≡ over_all seen f rest stakes (k ∷ ks)
   over-back seen f rest stakes ks n x k none inside same = let moved = over-home seen f stakes n x none inside in omega arith
@@ -231,7 +235,7 @@ module _ {S : Type 0} where
       let size = h.size in
       omega (arith, most, size, number)
 
-  pub unlocks : (seen : S → Seen) (m : Mount) (history : List Entry) (stakes : List (Option S)) (core : ℕ → Option InCore) (rest : S)
+  abbrev pub unlocks : (seen : S → Seen) (m : Mount) (history : List Entry) (stakes : List (Option S)) (core : ℕ → Option InCore) (rest : S)
       (p : Proc) (ps : List Proc) (ks : List Lock) (n : ℕ) (x : S) (k : Lock) (c : Option InCore) → IsStill k n c (seen x)
       → Parts seen m history stakes core rest (p ∷ ps) (k ∷ ks)
       → Parts seen m history (set stakes n (Some x)) core rest (failed (rise k.faults (seen x).faults) p ∷ ps) ks
@@ -283,13 +287,16 @@ module _ {S : Type 0} where
       once i = elim (cases_eq i n) [
         | inl e ↦
             let old = h.homes.once i in
-            let here : one_if (is_some (home_at (set stakes n (Some x)) i)) ≡ 1 = ap (λ j. one_if (is_some (home_at (set stakes n (Some x)) j))) e ∙ ap (λ o. one_if (is_some o)) full in
-            let was : one_if (is_some (home_at stakes i)) ≡ 0 = ap (λ j. one_if (is_some (home_at stakes j))) e ∙ ap (λ o. one_if (is_some o)) none in
+            let here : one_if (is_some (home_at (set stakes n (Some x)) i)) ≡ 1 =
+            ap (λ j. one_if (is_some (home_at (set stakes n (Some x)) j))) e ∙ ap (λ o. one_if (is_some o)) full in
+            let was : one_if (is_some (home_at stakes i)) ≡ 0 =
+            ap (λ j. one_if (is_some (home_at stakes j))) e ∙ ap (λ o. one_if (is_some o)) none in
             let locked : locks_on i k ≡ 1 = one-if-same k.number i (still.number ∙ sym e) in
             omega arith
         | inr apart ↦
             let old = h.homes.once i in
-            let stays : one_if (is_some (home_at (set stakes n (Some x)) i)) ≡ one_if (is_some (home_at stakes i)) = ap (λ o. one_if (is_some o)) (home-others stakes n i (Some x) apart) in
+            let stays : one_if (is_some (home_at (set stakes n (Some x)) i)) ≡ one_if (is_some (home_at stakes i)) =
+            ap (λ o. one_if (is_some o)) (home-others stakes n i (Some x) apart) in
             let other : locks_on i k ≡ 0 = one-if-apart k.number i (λ e. apart (sym e ∙ still.number)) in
             omega arith
       ]

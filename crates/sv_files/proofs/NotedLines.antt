@@ -1,5 +1,6 @@
 -- The lines that are noted of a stake are the lines that it holds.
-use Rattle.std.proofs.Common.{◌≡◌, ◌+◌, ◌*◌, ◌<◌, ◌≤◌, ◌++◌, ◌==◌, ◌&&◌, ℕ, zero, suc, Bool, true, false, cond, List, [], ◌∷◌, Option, Some, None, IsSome, refl, sym, ap, subst, ◌∙◌, arith}
+use Rattle.std.proofs.Common.{◌≡◌, ◌<◌, ◌++◌, ◌==◌, ◌&&◌, ℕ, zero, suc, Bool, true, false, cond, List, [], ◌∷◌, Option}
+use Rattle.std.proofs.Common.{Some, None, IsSome, refl, sym, ap, subst, ◌∙◌, arith}
 use Rattle.std.specs.Prelude.{◌⊎◌}
 use Rattle.std.proofs.Math.Path.{fun_ext}
 use mathlib.Core.Logic.{inl, inr}
@@ -20,7 +21,8 @@ held-nil : (b l : ℕ) → held_of [] b l ≡ None
 unfolding held_of
 held-nil b l = refl
 
-held-cons : (x : Noted) (xs : List Noted) (b l : ℕ) → held_of (x ∷ xs) b l ≡ cond ((x.block == b) && (x.line == l)) (Some x.bytes) (held_of xs b l)
+held-cons : (x : Noted) (xs : List Noted) (b l : ℕ)
+    → held_of (x ∷ xs) b l ≡ cond ((x.block == b) && (x.line == l)) (Some x.bytes) (held_of xs b l)
 unfolding held_of
 held-cons x xs b l = refl
 

@@ -17,12 +17,7 @@ use Rattle.sv_files.specs.declared.in_core.InCore.{InCore}
 use Rattle.sv_files.specs.View.{View, Mount, Proc, Lock, Seen, Each, lock_of, lock_seen, of_one, times}
 use Rattle.sv_files.specs.FileRule.{IsNodeOf, StandsAs, at_home, home_at, is_faulty}
 
--- The view of a pass of one process, which has locked nothing, and of one that has locked one inode.
-pub record IsAlone (v : View) : Type 0 where
-  pub mount : Mount
-  pub proc : Proc
-  pub is : v ≡ of_one mount proc []
-
+-- the view of a pass of one process that has locked one inode
 pub record HasOneLock (v : View) (k : Lock) : Type 0 where
   pub mount : Mount
   pub proc : Proc

@@ -1,8 +1,7 @@
 -- The rule of the file turn: what holds of the state and of all views whenever the turn is free. It has named parts, each over the
 -- fields that it names, so that what changes none of them keeps it.
-use Rattle.std.specs.Prelude.{◌≡◌, ◌+◌, ◌*◌, ◌<◌, ◌≤◌, ◌==◌, ◌&&◌, ◌||◌, ℕ, zero, suc, Bool, true, false, List, [], ◌∷◌, ◌++◌, length, min}
+use Rattle.std.specs.Prelude.{◌≡◌, ◌+◌, ◌*◌, ◌<◌, ◌≤◌, ◌==◌, ◌&&◌, ℕ, zero, suc, Bool, true, false, List, [], ◌∷◌, ◌++◌, length, min}
 use Rattle.std.specs.Prelude.{Option, Some, None, is_some, nat_lt, nat_eq}
-use Rattle.std.specs.List.{list_any}
 use Rattle.std.specs.Ordering.{nat_cmp}
 use Rattle.std.specs.FinMap as map
 use Rattle.indexmap.specs.IndexMap as table

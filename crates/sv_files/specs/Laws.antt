@@ -1,5 +1,5 @@
 -- The laws of the rule: views in any order, blank views, and cuts.
-use Rattle.std.proofs.Common.{◌≡◌, ◌+◌, ◌<◌, ◌≤◌, ◌++◌, ℕ, List, [], ◌∷◌, length, Option, refl, sym, subst, ◌∙◌, arith}
+use Rattle.std.proofs.Common.{◌≡◌, ◌+◌, ◌<◌, ◌≤◌, ◌++◌, ℕ, List, [], ◌∷◌, Option, refl, sym, subst, ◌∙◌, arith}
 use Rattle.std.specs.List.{sum_by, All}
 use Rattle.std.specs.List.Sorted.{IsPermutation}
 use Rattle.std.proofs.lemmas.List.Sums.{sum_by-cons}
@@ -11,8 +11,8 @@ use Rattle.sv_plain.specs.declared.entry.Entry.{Entry}
 use Rattle.sv_files.specs.declared.in_core.InCore.{InCore}
 use Rattle.sv_files.specs.declared.state.State.{State}
 use Rattle.sv_files.specs.View.{View, Mount, Proc, Lock, Seen, Each, blank, weight, lock_seen, all_procs, all_locks}
-use Rattle.sv_files.specs.FileRule.{IsAgreed, IsCut, IsLocked, IsMountOf, Agrees, Counted, Holds, Homes, Lines, Parts, Unforced}
-use Rattle.sv_files.specs.FileRule.{at_home, core_of, faulty, forcings, has_line, locks_on, names, over_all, proc_faults}
+use Rattle.sv_files.specs.FileRule.{IsAgreed, IsCut, IsLocked, IsMountOf, Holds, Parts}
+use Rattle.sv_files.specs.FileRule.{core_of, faulty, forcings, has_line, locks_on, names, over_all, proc_faults}
 
 module _ {A : Type 0} where
   pub total-append : (f : A → ℕ) (xs ys : List A) → total f (xs ++ ys) ≡ total f xs + total f ys
@@ -134,7 +134,8 @@ module _ {S : Type 0} where
   in_any_order seen s xs ys p h = record {
     mount = h.mount;
     same = each-permutation (IsMountOf h.mount) xs ys p h.same;
-    parts = same-parts seen h.mount s.history.items s.stakes.items (core_of s) s.rest.stake (all_procs xs) (all_procs ys) (all_locks xs) (all_locks ys) (same-order xs ys p) h.parts;
+    parts = same-parts seen h.mount s.history.items s.stakes.items (core_of s) s.rest.stake (all_procs xs) (all_procs ys) (all_locks xs)
+        (all_locks ys) (same-order xs ys p) h.parts;
   }
 
   pub with_blank : (seen : S → Seen) (s : State S) (xs : List View) → Holds seen s xs → Holds seen s (blank ∷ xs)
@@ -151,8 +152,10 @@ module _ {S : Type 0} where
       λ some. cut.mount.0 ∙ h.same.0 (rw cut.procs (omega (arith, length-append a.procs b.procs, some))),
       (λ some. cut.mount.1 ∙ h.same.0 (rw cut.procs (omega (arith, length-append a.procs b.procs, some))), h.same.1),
     );
-    parts = subst (λ ps. Parts seen h.mount s.history.items s.stakes.items (core_of s) s.rest.stake ps (all_locks (a ∷ b ∷ xs))) (sym (cut-procs v a b xs cut))
-        (subst (λ ks. Parts seen h.mount s.history.items s.stakes.items (core_of s) s.rest.stake (all_procs (v ∷ xs)) ks) (sym (cut-locks v a b xs cut)) h.parts);
+    parts = subst (λ ps. Parts seen h.mount s.history.items s.stakes.items (core_of s) s.rest.stake ps (all_locks (a ∷ b ∷ xs))) (sym
+        (cut-procs v a b xs cut))
+        (subst (λ ks. Parts seen h.mount s.history.items s.stakes.items (core_of s) s.rest.stake (all_procs (v ∷ xs)) ks) (sym (cut-locks
+        v a b xs cut)) h.parts);
   }
 
   pub in_one : (seen : S → Seen) (s : State S) (v a b : View) (xs : List View) → IsCut v a b → Holds seen s (a ∷ b ∷ xs)
@@ -160,8 +163,10 @@ module _ {S : Type 0} where
   in_one seen s v a b xs cut h = record {
     mount = h.mount;
     same = (λ some. sym cut.mount.0 ∙ h.same.0 cut.some.0, h.same.1.1);
-    parts = subst (λ ps. Parts seen h.mount s.history.items s.stakes.items (core_of s) s.rest.stake ps (all_locks (v ∷ xs))) (cut-procs v a b xs cut)
-        (subst (λ ks. Parts seen h.mount s.history.items s.stakes.items (core_of s) s.rest.stake (all_procs (a ∷ b ∷ xs)) ks) (cut-locks v a b xs cut) h.parts);
+    parts = subst (λ ps. Parts seen h.mount s.history.items s.stakes.items (core_of s) s.rest.stake ps (all_locks (v ∷ xs))) (cut-procs v
+        a b xs cut)
+        (subst (λ ks. Parts seen h.mount s.history.items s.stakes.items (core_of s) s.rest.stake (all_procs (a ∷ b ∷ xs)) ks) (cut-locks
+        v a b xs cut) h.parts);
   }
 
 pub weighs_both : (v a b : View) → IsCut v a b → (weight v ≡ weight a + weight b) × (0 < weight a) × (0 < weight b)

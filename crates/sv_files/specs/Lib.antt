@@ -1,4 +1,5 @@
 pub mod Adding
+pub mod Calls
 pub mod ConverseChain
 pub mod ConverseInodes
 pub mod ConverseLines

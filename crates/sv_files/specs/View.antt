@@ -1,5 +1,5 @@
 -- What a pass of the file turn stands for. No value of a view is made: it stands in proofs alone.
-use Rattle.std.specs.Prelude.{◌+◌, ◌==◌, ◌&&◌, ◌++◌, ℕ, zero, suc, Bool, false, List, [], ◌∷◌, length, Option, Some, None}
+use Rattle.std.specs.Prelude.{◌==◌, ◌&&◌, ◌++◌, ℕ, zero, suc, Bool, false, List, [], ◌∷◌, length, Option, Some, None}
 use Rattle.std.specs.Prelude.{if◌then◌else◌}
 use Rattle.sv_turn.specs.Turning.{total}
 use Rattle.sv_store.specs.Held.{Held, Lent, Origin, nothing_lent}

@@ -1,5 +1,10 @@
-//! From an image to the lines that a stake holds, and back: laws over the definitions of the crates below, without code.
+//! The files that processes share, under one turn; and laws, without code, from an image to the lines that a stake holds, and back.
 //!
+//! - `Files` has the in-core inodes, the superblock and the history. A `FilePass` is what one process has of it. Its rule, `Holds`
+//!   of the specs, says that the history leads to a file system each of whose inodes is at home or locked by one pass, and stands
+//!   for its node.
+//! - `stat` answers what an inode says. It locks the inode, sleeping while another pass has it, and reads its line where it is not
+//!   in core.
 //! - `inodes_stand_for_nodes`, `free_blocks_mount` and `free_inodes_mount` give, from a sound image, what each used inode's lines
 //!   stand for, and all that a core asks of the lines that no inode owns.
 //! - `closed_is_sound` gives a sound image, whose tree is the nodes, from the lines of a file system that was closed. Each other
@@ -14,14 +19,18 @@
 //!   system is at rest.
 #![tactic(auto)]
 
+mod answer;
+mod body;
 mod converse;
 mod event;
+mod files;
 mod from_image;
 mod in_core;
 mod lock;
 mod node_blocks;
 mod rule;
 mod stakes;
+mod stat;
 mod state;
 mod view;
 
@@ -30,5 +39,7 @@ pub use converse::{
     nodes_are_paged_well, nodes_are_tree, nodes_are_walked_once, nodes_have_inodes,
     purged_is_at_rest, sound_is_at_rest, sound_is_closed,
 };
+pub use files::{FilePass, Files};
 pub use from_image::{free_blocks_mount, free_inodes_mount, inodes_stand_for_nodes};
 pub use node_blocks::{need_is_added, tree_is_used};
+pub use std::alloc::AllocError as NoMemory;

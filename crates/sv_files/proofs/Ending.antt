@@ -1,0 +1,28 @@
+-- What the rule says once one pass stands for all processes.
+use Rattle.std.proofs.Common.{◌≡◌, ◌≤◌, List, [], ◌∷◌}
+use Rattle.sv_turn.specs.Turning.{total}
+use Rattle.sv_plain.specs.History.{own}
+use Rattle.sv_plain.proofs.HistorySteps.{leads-legal}
+use Rattle.sv_files.specs.declared.state.State.{State}
+use Rattle.sv_files.specs.View.{View, Seen, Each, first_fs}
+use Rattle.sv_files.specs.FileRule.{Holds, IsAgreed, faulty}
+use Rattle.sv_files.specs.Calls.{HasHistory}
+use Rattle.sv_files.specs.Laws.{each-left}
+
+module _ {A : Type 0} where
+  each-more : (P Q : A → Type 0) (xs : List A) → ((x : A) → P x → Q x) → Each P xs → Each Q xs
+  each-more P Q [] all each = tt
+  each-more P Q (x ∷ xs) all each = (all x each.0, each-more P Q xs all each.1)
+
+pub ends : {S : Type 0} (seen : S → Seen) (s : State S) (v : View) → Holds seen s (v ∷ []) → HasHistory v s.history.items
+ends seen s v h = record {
+  mount = h.mount;
+  known = h.same.0;
+  last = h.parts.fs;
+  leads = h.parts.follows.leads;
+  legal = leads-legal s.history.items (first_fs h.mount) h.parts.fs h.parts.follows.leads;
+  whole = h.parts.follows.whole;
+  entries = each-more (IsAgreed h.mount h.parts.fs s.history.items) (λ p. own s.history.items p.process ≡ p.entries) v.procs
+      (λ p is. is.entries) (each-left (IsAgreed h.mount h.parts.fs s.history.items) v.procs [] h.parts.agrees.each);
+  faults = each-left (λ p. total faulty p.entries ≤ p.faults) v.procs [] h.parts.counted.each;
+}
