@@ -1,4 +1,4 @@
-// What a locked inode is (Bach, chapter 4.2, the second part of algorithm iget): what is kept of it in core, or what its line says.
+// What a locked inode is (Bach, chapter 4, the second part of algorithm iget): what is kept of it in core, or what its line says.
 ghost use Rattle.std.specs.Prelude.{◌≡◌, ◌≤◌, ◌+◌, ◌*◌, ℕ, List, Some, IfOk, length, slice_range};
 ghost use Rattle.sv_form.specs.Geometry.{inode_place};
 ghost use Rattle.sv_form.specs.Inode.{IsInode};

@@ -50,7 +50,7 @@ impl<S: Stake> Files<S> {
         }
     }
 
-    /// Reads what an inode says, to which the process has a reference (Bach, chapter 5.11, algorithm stat). The entry of the
+    /// Reads what an inode says, to which the process has a reference (Bach, chapter 5, algorithm stat). The entry of the
     /// process that is added is legal where it stands, as the rule of the turn says. Without memory none is added. It waits
     /// while another process has the inode locked.
     pub fn stat<R: Wait>(&self, rt: &R, pass: &mut FilePass<S>, op: Op) -> Result<Reply, NoMemory>
