@@ -13,3 +13,6 @@ pub mod Written
 pub mod Delaying
 pub mod Writing
 pub mod Fitting
+pub mod Weighing
+pub mod Joining
+pub mod Closing

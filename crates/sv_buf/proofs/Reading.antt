@@ -26,7 +26,7 @@ no_device-seen (Some d) none P = absurd (omega arith)
 
 module _ {D : Type 0} where
   -- the device that is at home is the one of the rule
-  home-is : (seen : D → Device) (s : State D) (h : IsKept seen s) (d : D) → s.core.device ≡ Some d → seen d ≡ h.device
+  pub home-is : (seen : D → Device) (s : State D) (h : IsKept seen s) (d : D) → s.core.device ≡ Some d → seen d ≡ h.device
   home-is seen s h d at = subst (λ o. IfSome o (λ x. seen x ≡ h.device)) at h.device_home
 
   takes_device-at : (seen : D → Device) (s : State D) (v : View) (us : List View) (h : IsRunning seen s (v ∷ us)) (d : D)

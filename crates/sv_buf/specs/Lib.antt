@@ -7,3 +7,4 @@ pub mod Start
 pub mod Stake
 pub mod Pending
 pub mod Delaying
+pub mod Closing

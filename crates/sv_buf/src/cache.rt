@@ -27,8 +27,11 @@ pub type CachePass<D> = Pass<Running<D>>;
 pub struct Cache<D: Medium> {
     pub(crate) turn: Turn<Running<D>>,
     pub(crate) sizes: Geometry,
+    pub(crate) buffers: u32,
     ghost sized: { IsGeometry sizes },
     ghost same_sizes: { (first_view turn).opening.sizes ≡ sizes },
+    ghost whole: { first_view turn ≡ whole_view (first_view turn).opening },
+    ghost counted: { (first_view turn).opening.buffers ≡ buffers },
     ghost events: { turn_events turn ≡ (first_view turn).opening.buffers + 3 },
 }
 
@@ -97,7 +100,7 @@ fn open<D: Medium>(
         stopping: false,
     };
     match Turn::<Running<D>>::new::<Brand>(alloc, state, buffers + 3) {
-        Ok((turn, first)) => share(turn, first, sizes),
+        Ok((turn, first)) => share(turn, first, sizes, buffers),
         Err((state, refusal)) => Err((state.into_disk(), refusal)),
     }
 }
@@ -107,6 +110,7 @@ fn share<D: Medium>(
     turn: Turn<Running<D>>,
     mut first: Pass<Running<D>>,
     sizes: Geometry,
+    buffers: u32,
 ) -> Result<(Cache<D>, CachePass<D>, CachePass<D>), (D, NoMemory)>
     requires own { IsPassOf turn first }
     requires away { IsOut first }
@@ -114,6 +118,7 @@ fn share<D: Medium>(
     requires first { first_view turn ≡ whole_view (first_view turn).opening }
     requires sized { IsGeometry sizes }
     requires same_sizes { (first_view turn).opening.sizes ≡ sizes }
+    requires counted { (first_view turn).opening.buffers ≡ buffers }
     requires events { turn_events turn ≡ (first_view turn).opening.buffers + 3 }
     requires length { length (first_view turn).opening.disk.content ≡ (first_view turn).opening.sizes.blocks *
         (first_view turn).opening.sizes.block_size }
@@ -125,7 +130,15 @@ fn share<D: Medium>(
         (first_view r.0.turn).opening.disk.content) }
 {
     match turn.split::<Brand>(&mut first) {
-        Ok(worker) => Ok((Cache { turn, sizes }, first, worker)),
+        Ok(worker) => Ok((
+            Cache {
+                turn,
+                sizes,
+                buffers,
+            },
+            first,
+            worker,
+        )),
         Err(refusal) => {
             let state = turn.close(first);
             Err((state.into_disk(), refusal))

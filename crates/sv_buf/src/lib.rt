@@ -3,9 +3,11 @@
 //!
 //! - `Cache::new` is given a disk, and gives the cache with two passes: the first holds all lines, the second is the worker's.
 //! - `Cache::stake` makes a stake of a pass: the right to certain lines. `CacheStake::give_up` makes a pass of it again.
+//! - `Cache::close` takes all passes back, writes what is still to be written, and gives the disk.
 #![tactic(auto)]
 
 mod cache;
+mod close;
 mod delay;
 mod event;
 mod fresh;

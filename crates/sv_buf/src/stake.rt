@@ -153,7 +153,10 @@ impl<'a, D: Medium> CacheStake<'a, D> {
 
     /// The pass again, with the lines that the stake holds.
     pub fn give_up(self) -> CachePass<D>
-        ensures { result ≡ self.entry.pass }
+        ensures same { result ≡ self.entry.pass }
+        ensures own { IsPassOf self.entry.cache.now.turn result × IsOut result }
+        ensures fit { IsFit (pass_view result) }
+        ensures opened { (pass_view result).opening ≡ (first_view self.entry.cache.now.turn).opening }
     {
         let CacheStake { cache: _, pass } = self;
         pass
