@@ -6,11 +6,13 @@ pub mod Hang
 pub mod Kept
 pub mod Links
 pub mod Needs
+pub mod NumberReads
 pub mod Orders
 pub mod PagePaths
 pub mod PageSpots
 pub mod Parts
 pub mod Paths
 pub mod Rows
+pub mod Runs
 pub mod Sample
 pub mod Writes

@@ -16,7 +16,7 @@ use Rattle.sv_bmap.specs.Tree.{child, path, IsTree}
 use Rattle.sv_bmap.specs.Need.{Step, way, counts_at, need_at, need_of}
 use Rattle.sv_bmap.proofs.Paths.{path-is}
 
-sum-more : (f : ℕ → ℕ) (a k : ℕ) → sum_by f (range_with_len a (k + 1)) ≡ sum_by f (range_with_len a k) + f (a + k)
+pub sum-more : (f : ℕ → ℕ) (a k : ℕ) → sum_by f (range_with_len a (k + 1)) ≡ sum_by f (range_with_len a k) + f (a + k)
 sum-more f a zero =
     let one : sum_by f (a ∷ []) ≡ f a + sum_by f [] = sum_by-cons f a [] in
     let at : a + 0 ≡ a = omega arith in

@@ -1,9 +1,12 @@
 -- Blocks under a block, one place after another.
-use Rattle.std.proofs.Common.{◌≡◌, ◌≢◌, ◌≤◌, ◌<◌, ◌+◌, ◌-◌, ◌++◌, ◌==◌, ℕ, zero, suc, false, cond, List, [], ◌∷◌, length, get_or, ap}
+use Rattle.std.proofs.Common.{◌≡◌, ◌≢◌, ◌≤◌, ◌<◌, ◌+◌, ◌-◌, ◌++◌, ◌==◌, ℕ, zero, suc, false, cond, List, [], ◌∷◌}
+use Rattle.std.proofs.Common.{length, map, take, get_or, ap}
 use Rattle.std.proofs.Common.{refl, sym, ◌∙◌, subst, arith, append_assoc}
 use Rattle.std.specs.List.{flat_map, range_with_len}
 use Rattle.std.proofs.lemmas.Bool.Decides.{nat_tests}
-use Rattle.std.proofs.lemmas.List.{flat_map_more, append-nil}
+use Rattle.std.proofs.lemmas.List.{flat_map_more, append-nil, take_more}
+use Rattle.std.proofs.lemmas.List.Folds.{flat_map-map}
+use Rattle.std.proofs.lemmas.List.FromFn.{get_or-map-range_with_len, length-map-range_with_len}
 use Rattle.sv_form.proofs.OwnerLemmas.{range_more}
 use Rattle.sv_form.specs.declared.geometry.Geometry.{Geometry}
 use Rattle.sv_form.specs.PagePath.{block_numbers, first_single}
@@ -101,3 +104,41 @@ joined g h a {start} {pages} {one} {two} {all} p q r s t =
     (r
     ∙ ap (λ x. x ++ blocks_below (block_numbers g) h 1 (get_or a 10 0))
     (q ∙ ap (λ x. x ++ flat_map (λ slot. cond (get_or a slot 0 == 0) [] (get_or a slot 0 ∷ [])) (range_with_len 0 first_single)) p)))
+
+-- ---- lists of numbers
+
+-- one number more
+pub each-added : (f : ℕ → List ℕ) (start before after xs : List ℕ) (i : ℕ) → i < length xs → before ≡ start ++ flat_map f (take i xs)
+    → after ≡ before ++ f (get_or xs i 0) → after ≡ start ++ flat_map f (take (i + 1) xs)
+each-added f start before after xs i low e d =
+    d
+    ∙ (ap (λ q. q ++ f (get_or xs i 0)) e
+    ∙ (flat_map_more f start (take i xs) (get_or xs i 0) ∙ ap (λ q. start ++ flat_map f q) (sym (take_more xs i 0 low))))
+
+-- what stands under the numbers of a block, which comes last
+pub all-listed : (o o' : Origin) (h h' : Held) (d b : ℕ) (xs start before after : List ℕ) → o' ≡ o → h' ≡ h → b ≢ 0
+    → xs ≡ map (child h b) (range_with_len 0 (block_numbers o.sizes))
+    → before ≡ start ++ flat_map (blocks_below (block_numbers o'.sizes) h' d) xs → after ≡ before ++ b ∷ []
+    → after ≡ start ++ blocks_below (block_numbers o.sizes) h (suc d) b
+all-listed o o' h h' d b xs start before after p q some listed e last =
+    let n : ℕ = block_numbers o.sizes in
+    all-added n n h d b start before after some refl
+    (e
+    ∙ (ap (λ z. start ++ flat_map (blocks_below (block_numbers z.sizes) h' d) xs) p
+    ∙ (ap (λ z. start ++ flat_map (blocks_below n z d) xs) q
+    ∙ (ap (λ z. start ++ flat_map (blocks_below n h d) z) listed
+    ∙ ap (λ z. start ++ z) (flat_map-map (blocks_below n h d) (child h b) (range_with_len 0 n)))))) last
+
+-- pages are all that stands under themselves
+pub pages-below : (n : ℕ) (h : Held) (xs : List ℕ) → flat_map (λ b. cond (b == 0) [] (b ∷ [])) xs ≡ flat_map (blocks_below n h 0) xs
+unfolding Rattle.sv_form.specs.AddressTree.blocks_below
+pages-below n h xs = refl
+
+-- what stands under the numbers of a block is held
+pub children-below : {o o' : Origin} {h h' : Held} {d b : ℕ} (xs : List ℕ) → o' ≡ o → h' ≡ h → HeldBelow o h (suc d) b
+    → xs ≡ map (child h b) (range_with_len 0 (block_numbers o.sizes)) → (k : ℕ) → k < length xs → HeldBelow o' h' d (get_or xs k 0)
+children-below {o} {o'} {h} {h'} {d} {b} xs p q below listed k low =
+    let n : ℕ = block_numbers o.sizes in
+    let inside : k < n = omega (arith, low, ap length listed, length-map-range_with_len (child h b) 0 n) in
+    below-after p q (ap (λ z. get_or z k 0) listed ∙ get_or-map-range_with_len (child h b) 0 n k k 0 inside (omega arith))
+    (held-child below k inside)

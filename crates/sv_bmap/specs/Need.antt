@@ -1,5 +1,5 @@
 -- How many blocks are missing to make pages present.
-use Rattle.std.specs.Prelude.{◌==◌, ◌&&◌, ℕ, Bool, List, [], ◌∷◌, max, count_by, slice_index}
+use Rattle.std.specs.Prelude.{◌≡◌, ◌≤◌, ◌+◌, ◌*◌, ◌==◌, ◌&&◌, ℕ, Bool, List, [], ◌∷◌, max, count_by, slice_index}
 use Rattle.std.specs.List.{range_with_len, sum_by}
 use Rattle.sv_form.specs.PagePath.{block_numbers, page_of, single_slot, double_slot, triple_slot}
 use Rattle.sv_form.specs.declared.geometry.Geometry.{Geometry}
@@ -42,3 +42,19 @@ need_at g h a first page = count_by (counts_at first page) (way g h a (path (blo
 -- how many data and indirect blocks make these pages present
 unfoldable pub need_of : Geometry → Held → List ℕ → ℕ → ℕ → ℕ
 need_of g h a first count = sum_by (need_at g h a first) (range_with_len first count)
+
+-- A run is some pages of an indirect block b from its number k on, at most so many of them: those that are holes are missing, and
+-- so are some blocks above them.
+pub record IsRun (h : Held) (n b k left above pages missing : ℕ) : Type 0 where
+  pub some : 1 ≤ pages
+  pub most : pages ≤ left
+  pub within : k + pages ≤ n
+  pub counted : missing ≡ above + count_by (λ p. child h b p == 0) (range_with_len k pages)
+  pub few : missing ≤ above + pages
+
+-- these are the missing blocks that are counted at some pages from one page on, at most so many of them
+pub record CountsRun (g : Geometry) (h : Held) (a : List ℕ) (first page left pages missing : ℕ) : Type 0 where
+  pub some : 1 ≤ pages
+  pub most : pages ≤ left
+  pub counted : missing ≡ sum_by (need_at g h a first) (range_with_len page pages)
+  pub few : missing ≤ 4 * pages

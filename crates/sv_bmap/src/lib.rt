@@ -11,6 +11,7 @@
 mod grow;
 #[cfg(test)]
 mod grow_tests;
+mod numbers;
 mod order;
 mod pages;
 #[cfg(test)]

@@ -4,9 +4,10 @@ ghost use Rattle.sv_form.specs.PagePath.{IsPage, block_numbers};
 ghost use Rattle.sv_store.specs.Causes.{HasFault};
 ghost use Rattle.sv_store.specs.Frames.{Unchanged};
 ghost use Rattle.sv_store.specs.Held.{HoldsBlock, nothing_lent};
-ghost use Rattle.sv_bmap.specs.Need.{need_at, need_of};
+ghost use Rattle.sv_bmap.specs.Need.{CountsRun, IsRun, need_of};
 ghost use Rattle.sv_bmap.specs.Tree.{IsTree, child, no_hole, page_block};
 
+use crate::numbers::holes_of;
 use std::sync::Wait;
 use sv_form::{DOUBLE, PagePath, SINGLE, TRIPLE, number32};
 use sv_store::{Refusal, Stake};
@@ -138,7 +139,8 @@ fn three_below<R: Wait, S: Stake>(
     Ok((upper, lower, block))
 }
 
-/// How many data and indirect blocks make `count` pages from `first` on present. At most three blocks a page are read.
+/// How many data and indirect blocks make `count` pages from `first` on present. An indirect block whose numbers are pages is
+/// read once for all of its pages that are asked for.
 pub fn need<R: Wait, S: Stake>(
     rt: &R,
     a: &Addresses,
@@ -155,61 +157,98 @@ pub fn need<R: Wait, S: Stake>(
 {
     let _sizes = s.geometry();
     let mut missing = 0;
-    for k in 0..count {
-        missing += need_of_page(rt, a, s, first, first + k)?;
+    let mut done = 0;
+    while done < count {
+        let run = need_of_run(rt, a, s, first, first + done, count - done)?;
+        missing += run.missing;
+        done += run.pages;
     }
     Ok(missing)
 }
 
-// How many of the missing blocks are counted at this page.
-fn need_of_page<R: Wait, S: Stake>(
+// Pages one after another, and how many of the missing blocks are counted at them.
+#[derive(Clone, Copy)]
+struct Run {
+    pages: u32,
+    missing: u32,
+}
+
+// This page and those after it under the same block, of so many.
+fn need_of_run<R: Wait, S: Stake>(
     rt: &R,
     a: &Addresses,
     s: &mut S,
     first: u32,
     page: u32,
-) -> Result<u32, Refusal>
+    left: u32,
+) -> Result<Run, Refusal>
     requires tree { IsTree (S.origin s.old) (S.held s.old) a.now }
     requires page { IsPage (S.origin s.old).sizes page }
     requires order { first ≤ page }
+    requires some { 1 ≤ left }
     requires lent { S.lent s.old ≡ nothing_lent }
-    ensures need { IfOk result (λ need. need ≡ need_at (S.origin s.old).sizes (S.held s.old) a.now first page) }
-    ensures few { IfOk result (λ need. need ≤ 4) }
+    ensures run { IfOk result (λ run. CountsRun (S.origin s.old).sizes (S.held s.old) a.now first page left run.pages run.missing) }
     ensures stake { Unchanged S.held S.lent S.origin S.forced s.old s.new }
     ensures cause { HasFault (S.faults s.old) (S.faults s.new) result }
 {
     let sizes = s.geometry();
     let begins = page == first;
     match sizes.path_of(page) {
-        PagePath::Direct(i) => Ok(missing(a[usize::from(i)], true)),
+        PagePath::Direct(i) => Ok(Run {
+            pages: 1,
+            missing: missing(a[usize::from(i)], true),
+        }),
         PagePath::Single(i) => {
-            let block = child_of(rt, s, a[SINGLE], usize::from(i))?;
-            Ok(missing(a[SINGLE], begins | (i == 0)) + missing(block, true))
+            let above = missing(a[SINGLE], begins | (i == 0));
+            run_below(rt, s, a[SINGLE], i, left, above)
         }
         PagePath::Double(i, j) => {
-            let (middle, block) = two_below(rt, s, a[DOUBLE], usize::from(i), usize::from(j))?;
-            Ok(
-                missing(a[DOUBLE], begins | ((i == 0) & (j == 0)))
-                    + missing(middle, begins | (j == 0))
-                    + missing(block, true),
-            )
+            let middle = child_of(rt, s, a[DOUBLE], usize::from(i))?;
+            let above = missing(a[DOUBLE], begins | ((i == 0) & (j == 0)))
+                + missing(middle, begins | (j == 0));
+            run_below(rt, s, middle, j, left, above)
         }
         PagePath::Triple(i, j, k) => {
-            let (x, y, z) = (usize::from(i), usize::from(j), usize::from(k));
-            let (upper, lower, block) = three_below(rt, s, a[TRIPLE], x, y, z)?;
-            Ok(
-                missing(a[TRIPLE], begins | ((i == 0) & ((j == 0) & (k == 0))))
-                    + missing(upper, begins | ((j == 0) & (k == 0)))
-                    + missing(lower, begins | (k == 0))
-                    + missing(block, true),
-            )
+            let (upper, lower) = two_below(rt, s, a[TRIPLE], usize::from(i), usize::from(j))?;
+            let above = missing(a[TRIPLE], begins | ((i == 0) & ((j == 0) & (k == 0))))
+                + missing(upper, begins | ((j == 0) & (k == 0)))
+                + missing(lower, begins | (k == 0));
+            run_below(rt, s, lower, k, left, above)
         }
     }
 }
 
+// The pages of an indirect block from one of its numbers on, at most so many. The missing blocks above them are counted too.
+fn run_below<R: Wait, S: Stake>(
+    rt: &R,
+    s: &mut S,
+    b: u32,
+    k: u16,
+    left: u32,
+    above: u32,
+) -> Result<Run, Refusal>
+    requires block { b ≢ 0 → HoldsBlock (S.origin s.old) (S.held s.old) b }
+    requires place { k < block_numbers (S.origin s.old).sizes }
+    requires some { 1 ≤ left }
+    requires few { above ≤ 3 }
+    requires lent { S.lent s.old ≡ nothing_lent }
+    ensures run { IfOk result (λ run. IsRun (S.held s.old) (block_numbers (S.origin s.old).sizes) b k left above run.pages run.missing) }
+    ensures stake { Unchanged S.held S.lent S.origin S.forced s.old s.new }
+    ensures cause { HasFault (S.faults s.old) (S.faults s.new) result }
+{
+    let sizes = s.geometry();
+    let pages = left.min(sizes.block_numbers() - u32::from(k));
+    let holes = holes_of(rt, s, b, usize::from(k), pages)?;
+    Ok(Run {
+        pages,
+        missing: above + holes,
+    })
+}
+
 // One for a hole, where this page is the first in the range that it stands above.
 fn missing(block: u32, is_first: bool) -> u32
-    ensures { result ≡ (if (block == 0) && is_first then 1 else 0) }
+    ensures missing { result ≡ (if (block == 0) && is_first then 1 else 0) }
+    ensures few { result ≤ 1 }
 {
     u32::from((block == 0) & is_first)
 }

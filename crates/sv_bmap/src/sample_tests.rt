@@ -1,10 +1,11 @@
 // Tests over a file made by hand: a single indirect block with one page, and a triple one with one page.
-ghost use Rattle.std.specs.Prelude.{◌≡◌, ◌≤◌, ◌+◌, ◌∷◌, [], IfOk, map};
+ghost use Rattle.std.specs.Prelude.{◌≡◌, ◌∷◌, [], IfOk, map};
 ghost use Rattle.std.specs.List.{range_with_len};
 ghost use Rattle.sv_store.specs.Held.{nothing_lent};
 ghost use Rattle.sv_bmap.specs.Sample.{sample_bytes, sample_number, sample_place};
 ghost use Rattle.sv_bmap.specs.Tree.{IsTree};
 
+use crate::tests::FAR;
 use crate::{Addresses, collect, lookup, need};
 use std::alloc::Global;
 use std::sync::Wait;
@@ -75,31 +76,29 @@ fn file(alloc: Global, failing: u64) -> Result<OwnStake, NoMemory>
 }
 
 // What two look-ups of a page answer, one after the other.
-fn lookups<R: Wait>(
-    rt: &R,
-    alloc: Global,
-    failing: u64,
-    page: u32,
-) -> Result<[Result<Option<u32>, Refusal>; 2], NoMemory>
-    requires { page ≤ 1000000 }
-{
+type Lookups = [Result<Option<u32>, Refusal>; 2];
+
+fn lookups<R: Wait>(rt: &R, alloc: Global, failing: u64, page: u32) -> Result<Lookups, NoMemory> {
     let mut stake = file(alloc, failing)?;
+    let page = page.min(FAR);
     let first = lookup(rt, &FILE, &mut stake, page);
     let second = lookup(rt, &FILE, &mut stake, page);
     Ok([first, second])
 }
 
 // What the need of some pages is, asked twice.
+type Needs = [Result<u32, Refusal>; 2];
+
 fn needs<R: Wait>(
     rt: &R,
     alloc: Global,
     failing: u64,
     first: u32,
     count: u32,
-) -> Result<[Result<u32, Refusal>; 2], NoMemory>
-    requires { first + count ≤ 1000000 }
-{
+) -> Result<Needs, NoMemory> {
     let mut stake = file(alloc, failing)?;
+    let first = first.min(FAR);
+    let count = count.min(FAR);
     let once = need(rt, &FILE, &mut stake, first, count);
     let again = need(rt, &FILE, &mut stake, first, count);
     Ok([once, again])
@@ -114,11 +113,9 @@ pub(crate) fn row(blocks: &[u32]) -> u64 {
 }
 
 // What `collect` lists, asked twice.
-fn collects<R: Wait>(
-    rt: &R,
-    alloc: Global,
-    failing: u64,
-) -> Result<[Result<u64, Refusal>; 2], NoMemory> {
+type Collects = [Result<u64, Refusal>; 2];
+
+fn collects<R: Wait>(rt: &R, alloc: Global, failing: u64) -> Result<Collects, NoMemory> {
     let mut stake = file(alloc, failing)?;
     let once = collect(rt, alloc, &FILE, &mut stake);
     let again = collect(rt, alloc, &FILE, &mut stake);
@@ -130,73 +127,76 @@ fn collects<R: Wait>(
 
 const PAGE: u32 = 131854;
 
+const FAULT: Result<Option<u32>, Refusal> = Err(Refusal::Fault);
+
+// The number of the call that fails, the page, and what is answered. Three blocks lead to the page far out, and one to page 13.
+const LOOKUPS: [(u64, u32, Lookups); 9] = [
+    (1, PAGE, [FAULT, Ok(Some(63))]),
+    (2, PAGE, [FAULT, Ok(Some(63))]),
+    (3, PAGE, [FAULT, Ok(Some(63))]),
+    (1, 13, [FAULT, Ok(Some(51))]),
+    (7, PAGE, [Ok(Some(63)), Ok(Some(63))]),
+    (3, 13, [Ok(Some(51)), Ok(Some(51))]),
+    (9, 12, [Ok(None), Ok(None)]),
+    (9, PAGE + 1, [Ok(None), Ok(None)]),
+    (9, PAGE + 256, [Ok(None), Ok(None)]),
+];
+
 #[test]
 fn a_look_up_fails_at_each_of_its_calls_and_then_answers(rt: HostRuntime) -> Result<(), Fail> {
-    for failing in 1..4u64 {
-        assert_eq!(rt;
-            lookups(&rt, rt.alloc(), failing, PAGE)?,
-            [Err(Refusal::Fault), Ok(Some(63))]
-        );
+    for (failing, page, answers) in LOOKUPS {
+        assert_eq!(rt; lookups(&rt, rt.alloc(), failing, page)?, answers);
     }
-    assert_eq!(rt;
-        lookups(&rt, rt.alloc(), 1, 13)?,
-        [Err(Refusal::Fault), Ok(Some(51))]
-    );
-    assert_eq!(rt;
-        lookups(&rt, rt.alloc(), 7, PAGE)?,
-        [Ok(Some(63)), Ok(Some(63))]
-    );
-    assert_eq!(rt;
-        lookups(&rt, rt.alloc(), 3, 13)?,
-        [Ok(Some(51)), Ok(Some(51))]
-    );
-    assert_eq!(rt; lookups(&rt, rt.alloc(), 9, 12)?, [Ok(None), Ok(None)]);
-    assert_eq!(rt;
-        lookups(&rt, rt.alloc(), 9, PAGE + 1)?,
-        [Ok(None), Ok(None)]
-    );
-    assert_eq!(rt;
-        lookups(&rt, rt.alloc(), 9, PAGE + 256)?,
-        [Ok(None), Ok(None)]
-    );
     Ok(())
 }
+
+const SHORT: Result<u32, Refusal> = Err(Refusal::Fault);
+
+// The number of the call that fails, the first page, how many there are, and what is answered. Three blocks are read for the pages
+// far out, and one for pages 12 to 14, however many of their numbers are looked at.
+const NEEDS: [(u64, u32, u32, Needs); 14] = [
+    (1, PAGE, 2, [SHORT, Ok(1)]),
+    (2, PAGE, 2, [SHORT, Ok(1)]),
+    (3, PAGE, 2, [SHORT, Ok(1)]),
+    (4, PAGE, 2, [Ok(1), SHORT]),
+    (5, PAGE, 2, [Ok(1), SHORT]),
+    (6, PAGE, 2, [Ok(1), SHORT]),
+    (7, PAGE, 2, [Ok(1), Ok(1)]),
+    (13, PAGE, 2, [Ok(1), Ok(1)]),
+    (1, 12, 3, [SHORT, Ok(2)]),
+    (2, 12, 3, [Ok(2), SHORT]),
+    (3, 12, 3, [Ok(2), Ok(2)]),
+    (50, 12, 3, [Ok(2), Ok(2)]),
+    (50, PAGE + 252, 1, [Ok(2), Ok(2)]),
+    (50, PAGE + 251, 2, [Ok(3), Ok(3)]),
+];
 
 #[test]
 fn the_need_fails_at_each_of_its_calls_and_then_answers(rt: HostRuntime) -> Result<(), Fail> {
-    for failing in 1..7u64 {
-        assert_eq!(rt;
-            needs(&rt, rt.alloc(), failing, PAGE, 2)?,
-            [Err(Refusal::Fault), Ok(1)]
-        );
+    for (failing, first, count, answers) in NEEDS {
+        assert_eq!(rt; needs(&rt, rt.alloc(), failing, first, count)?, answers);
     }
-    assert_eq!(rt; needs(&rt, rt.alloc(), 13, PAGE, 2)?, [Ok(1), Ok(1)]);
-    assert_eq!(rt; needs(&rt, rt.alloc(), 50, 12, 3)?, [Ok(2), Ok(2)]);
-    assert_eq!(rt; needs(&rt, rt.alloc(), 50, PAGE + 252, 1)?, [Ok(2), Ok(2)]);
     Ok(())
 }
 
-#[test]
-fn a_collection_fails_at_its_calls_and_then_answers(rt: HostRuntime) -> Result<(), Fail> {
-    let listed = 51_050_063_062_061_060u64;
-    for failing in 1..6u64 {
-        assert_eq!(rt;
-            collects(&rt, rt.alloc(), failing)?,
-            [Err(Refusal::Fault), Ok(listed)]
-        );
+const LISTED: u64 = 51_050_063_062_061_060;
+
+// What is answered while the call with this number fails. Four indirect blocks are read, each once.
+fn collected(failing: u64) -> Collects {
+    match failing {
+        1..=4 => [Err(Refusal::Fault), Ok(LISTED)],
+        5..=8 => [Ok(LISTED), Err(Refusal::Fault)],
+        _ => [Ok(LISTED), Ok(LISTED)],
     }
-    assert_eq!(rt;
-        collects(&rt, rt.alloc(), 257)?,
-        [Err(Refusal::Fault), Ok(listed)]
-    );
-    assert_eq!(rt;
-        collects(&rt, rt.alloc(), 1024)?,
-        [Err(Refusal::Fault), Ok(listed)]
-    );
-    assert_eq!(rt;
-        collects(&rt, rt.alloc(), 1025)?,
-        [Ok(listed), Err(Refusal::Fault)]
-    );
-    assert_eq!(rt; collects(&rt, rt.alloc(), 2049)?, [Ok(listed), Ok(listed)]);
+}
+
+#[test]
+fn a_collection_reads_each_indirect_block_once(rt: HostRuntime) -> Result<(), Fail> {
+    for failing in 1..10u64 {
+        assert_eq!(rt; collects(&rt, rt.alloc(), failing)?, collected(failing));
+    }
+    for failing in [257u64, 1024, 1025, 2049] {
+        assert_eq!(rt; collects(&rt, rt.alloc(), failing)?, collected(failing));
+    }
     Ok(())
 }

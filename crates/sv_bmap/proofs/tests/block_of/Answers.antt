@@ -9,4 +9,4 @@ lookup-requires-clause-tree g c _ _ = empty-tree _ _ _ zeros
 pub lookup-requires-clause-page : goal.lookup-requires-clause-page
 lookup-requires-clause-page g c _ _ =
     is-page _ (small _ (ap (λ q. q.sizes.block_size) c.in_ok-stake.ensures.sizes) (ap (λ q. q.sizes.blocks) c.in_ok-stake.ensures.sizes)
-    (ap (λ q. q.sizes.first_data) c.in_ok-stake.ensures.sizes)) c.args.page (omega (arith, c.requires))
+    (ap (λ q. q.sizes.first_data) c.in_ok-stake.ensures.sizes)) c.min.result (omega (arith, c.min.ensures))
