@@ -20,7 +20,7 @@ use Rattle.sv_store.specs.Calls.{Gets}
 use Rattle.sv_store.specs.Held.{Held, Origin}
 use Rattle.sv_store.specs.Loan.{Loan}
 use Rattle.sv_inode.specs.Contents.{block_of}
-use Rattle.sv_inode.specs.Names.{Finds, IsFirst, is_named}
+use Rattle.sv_inode.specs.Names.{Finds, IsFirst, inode_in, is_at, is_named, is_sought_at, is_sought_in_hole}
 use Rattle.sv_inode.specs.StandsFor.{StandsFor}
 use Rattle.sv_inode.proofs.PageParts.{list_is_map}
 use Rattle.sv_inode.proofs.WrittenTree.{page-got, page-hole}
@@ -150,32 +150,39 @@ gets-since {o} {o'} {h} {h'} {b} {buf} e f gets =
     let Q : Held → Type 0 = λ q. Gets o' q b buf in
     subst P e (subst Q f gets)
 
-pub found-since : {o o' : Origin} {h h' : Held} {body : InodeBody} (page count : ℕ) (name : List ℕ) (found : Option (ℕ × ℕ)) → o' ≡ o
+pub found-since : {o o' : Origin} {h h' : Held} {body : InodeBody} (page count : ℕ) (name : Option (List ℕ)) (found : Option (ℕ × ℕ)) → o' ≡ o
     → h' ≡ h
-    → ((node : Node) → StandsFor o' h' body node → Finds (λ j. is_entry o'.sizes.block_size node name (64 * page + j))
+    → ((node : Node) → StandsFor o' h' body node → Finds (λ j. is_at o'.sizes.block_size node name (64 * page + j))
     (λ j. entry_inode o'.sizes.block_size node (64 * page + j)) count found)
-    → (node : Node) → StandsFor o h body node → Finds (λ j. is_entry o.sizes.block_size node name (64 * page + j))
+    → (node : Node) → StandsFor o h body node → Finds (λ j. is_at o.sizes.block_size node name (64 * page + j))
     (λ j. entry_inode o.sizes.block_size node (64 * page + j)) count found
 found-since {o} {o'} {h} {h'} {body} page count name found e f each =
     let P : Origin → Type 0 = λ q. (node : Node) → StandsFor q h body node
-    → Finds (λ j. is_entry q.sizes.block_size node name (64 * page + j))
+    → Finds (λ j. is_at q.sizes.block_size node name (64 * page + j))
     (λ j. entry_inode q.sizes.block_size node (64 * page + j)) count found in
     let Q : Held → Type 0 = λ q. (node : Node) → StandsFor o' q body node
-    → Finds (λ j. is_entry o'.sizes.block_size node name (64 * page + j))
+    → Finds (λ j. is_at o'.sizes.block_size node name (64 * page + j))
     (λ j. entry_inode o'.sizes.block_size node (64 * page + j)) count found in
     subst P e (subst Q f each)
 
+-- entry j of a page is sought in its bytes and in the node
+sought-there : (block : ℕ) (node : Node) (name : Option (List ℕ)) (page j : ℕ) (bytes : List ℕ) → block ≡ 1024
+    → fmap.get node.pages page ≡ Some bytes → j < 64 → 16 * j + 16 ≤ length bytes
+    → is_at block node name (64 * page + j) ≡ is_sought_at bytes name j
+sought-there block node None page j bytes e there low fits = ap (λ q. q == 0) (inode-there block node page j bytes e there low)
+sought-there block node (Some name) page j bytes e there low fits = entry-there block node name page j bytes e there low fits
+
 -- what is found in the bytes of a page is found in the node
-pub page-found : {o o' : Origin} {h h' : Held} {body : InodeBody} (node : Node) {p : ℕ} {buf : Loan} (page count : ℕ) (name : List ℕ)
-    (found : Option (ℕ × ℕ)) → IsGeometry o.sizes → IsPage o.sizes page → 16 * count ≤ o.sizes.block_size → StandsFor o h body node
-    → block_of o.sizes h body.addresses page ≡ Some p → o' ≡ o → h' ≡ h → Gets o' h' p buf
-    → Finds (λ j. is_named buf.bytes name (16 * j)) (λ j. number16 buf.bytes (16 * j)) count found
-    → Finds (λ j. is_entry o.sizes.block_size node name (64 * page + j))
+pub page-found : {o o' : Origin} {h h' : Held} {body : InodeBody} (node : Node) {p : ℕ} {buf : Loan} (page count : ℕ)
+    (name : Option (List ℕ)) (found : Option (ℕ × ℕ)) → IsGeometry o.sizes → IsPage o.sizes page → 16 * count ≤ o.sizes.block_size
+    → StandsFor o h body node → block_of o.sizes h body.addresses page ≡ Some p → o' ≡ o → h' ≡ h → Gets o' h' p buf
+    → Finds (is_sought_at buf.bytes name) (inode_in buf.bytes) count found
+    → Finds (λ j. is_at o.sizes.block_size node name (64 * page + j))
     (λ j. entry_inode o.sizes.block_size node (64 * page + j)) count found
 page-found {o} {o'} {h} {h'} {body} node {p} {buf} page count name found sizes is few stands there e f gets finds =
     finds-alike found
-    (λ k low. entry-there o.sizes.block_size node name page k buf.bytes sizes.block_size got (omega (arith, low, few, sizes.block_size))
-    (omega (arith, low, few, mine.size)))
+    (λ k low. sought-there o.sizes.block_size node name page k buf.bytes sizes.block_size got
+    (omega (arith, low, few, sizes.block_size)) (omega (arith, low, few, mine.size)))
     (λ k low. inode-there o.sizes.block_size node page k buf.bytes sizes.block_size got (omega (arith, low, few, sizes.block_size))) finds
   where
     mine : Gets o h p buf
@@ -184,14 +191,24 @@ page-found {o} {o'} {h} {h'} {body} node {p} {buf} page count name found sizes i
     got : fmap.get node.pages page ≡ Some buf.bytes
     got = page-got page sizes is stands there mine
 
--- a hole has no entry
-pub hole-found : {o : Origin} {h : Held} {body : InodeBody} (node : Node) (page count : ℕ) (name : List ℕ) → IsGeometry o.sizes
-    → IsPage o.sizes page → 16 * count ≤ o.sizes.block_size → StandsFor o h body node → block_of o.sizes h body.addresses page ≡ None
-    → (k : ℕ) → k < count → is_entry o.sizes.block_size node name (64 * page + k) ≡ false
-hole-found {o} node page count name sizes is few stands hole k low =
-    ap (λ q. not (q == 0) && same_bytes (entry_name o.sizes.block_size node (64 * page + k)) name)
-    (inode-hole o.sizes.block_size node page k sizes.block_size (page-hole page sizes is stands hole)
-    (omega (arith, low, few, sizes.block_size)))
+-- all entries of a hole are empty
+pub hole-found : {o : Origin} {h : Held} {body : InodeBody} (node : Node) (page count : ℕ) (name : Option (List ℕ))
+    (found : Option (ℕ × ℕ)) → IsGeometry o.sizes → IsPage o.sizes page → 16 * count ≤ o.sizes.block_size → StandsFor o h body node
+    → block_of o.sizes h body.addresses page ≡ None → Finds (is_sought_in_hole name) (λ j. 0) count found
+    → Finds (λ j. is_at o.sizes.block_size node name (64 * page + j))
+    (λ j. entry_inode o.sizes.block_size node (64 * page + j)) count found
+hole-found {o} node page count name found sizes is few stands hole finds =
+    finds-alike found (λ k low. by name k low) (λ k low. empty k low) finds
+  where
+    empty : (k : ℕ) → k < count → entry_inode o.sizes.block_size node (64 * page + k) ≡ 0
+    empty k low = inode-hole o.sizes.block_size node page k sizes.block_size (page-hole page sizes is stands hole)
+        (omega (arith, low, few, sizes.block_size))
+
+    by : (sought : Option (List ℕ)) (k : ℕ) → k < count
+        → is_at o.sizes.block_size node sought (64 * page + k) ≡ is_sought_in_hole sought k
+    by None k low = ap (λ q. q == 0) (empty k low)
+    by (Some other) k low =
+        ap (λ q. not (q == 0) && same_bytes (entry_name o.sizes.block_size node (64 * page + k)) other) (empty k low)
 
 -- ---- page by page
 

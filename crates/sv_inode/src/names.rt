@@ -4,7 +4,7 @@ ghost use Rattle.std.specs.Prelude.{slice_index};
 ghost use Rattle.sv_form.specs.Entries.{until_zero};
 ghost use Rattle.sv_form.specs.Node.{Node, entry_inode};
 ghost use Rattle.sv_form.specs.NodeChanges as changes;
-ghost use Rattle.sv_form.specs.NodeNames.{child_of, is_entry, place_of, same_bytes, without_entry};
+ghost use Rattle.sv_form.specs.NodeNames.{child_of, place_of, same_bytes, without_entry};
 ghost use Rattle.sv_form.specs.Number.{number16};
 ghost use Rattle.sv_form.specs.PagePath.{IsPage, greatest_size};
 ghost use Rattle.sv_store.specs.Causes.{HasFault};
@@ -14,7 +14,7 @@ ghost use Rattle.sv_store.specs.Held.{HoldsBlock, SameLines, nothing_lent, put};
 ghost use Rattle.sv_store.specs.Loan.{Loan};
 ghost use Rattle.sv_bmap.specs.Tree.{IsTree};
 ghost use Rattle.sv_inode.specs.Frames.{KeepsFront};
-ghost use Rattle.sv_inode.specs.Names.{Finds, is_named};
+ghost use Rattle.sv_inode.specs.Names.{Finds, inode_in, is_at, is_named, is_sought, is_sought_at, is_sought_in_hole};
 ghost use Rattle.sv_inode.specs.StandsFor.{HasTree, StandsFor};
 ghost use Rattle.sv_inode.specs.Write.{patched};
 
@@ -57,28 +57,53 @@ fn is_named(page: &[u8], name: &Name, at: usize) -> bool
     number16(page, at) != 0 && same_name(&page[at + 2..at + ENTRY_SIZE], name)
 }
 
-// The first of so many entries of a page that has the name.
-fn find_named(page: &[u8], name: &Name, count: u32) -> Option<Found>
+// Whether the entry that begins at this byte has the name, or is empty where none is asked for.
+fn is_sought(page: &[u8], name: &Option<Name>, at: usize) -> bool
+    requires { at + 16 ≤ length page.now }
+    ensures { result ≡ is_sought page.now name.now at }
+{
+    match name {
+        Some(name) => is_named(page, name, at),
+        None => number16(page, at) == 0,
+    }
+}
+
+// The first of so many entries of a page that has the name, or is empty where none is asked for.
+fn find_sought(page: &[u8], name: &Option<Name>, count: u32) -> Option<Found>
     requires { 16 * count ≤ length page.now }
-    ensures found { Finds (λ j. is_named page.now name.now (16 * j)) (λ j. number16 page.now (16 * j)) count result }
+    ensures found { Finds (is_sought_at page.now name.now) (inode_in page.now) count result }
     ensures within { IfSome result (λ found. found.0 < count) }
 {
     for place in 0..count {
         let at = ENTRY_SIZE * place as usize;
-        if is_named(page, name, at) {
+        if is_sought(page, name, at) {
             return Some((place, number16(page, at)));
         }
     }
     None
 }
 
-// The first of so many entries of a page of the directory that has the name, counted from the page's first one on. A
-// hole has none.
+// The first of so many entries of a hole: all are empty, and none has a name.
+fn find_in_hole(name: &Option<Name>, count: u32) -> Option<Found>
+    ensures found { Finds (is_sought_in_hole name.now) (λ j. 0) count result }
+    ensures within { IfSome result (λ found. found.0 < count) }
+{
+    if count == 0 {
+        return None;
+    }
+    match name {
+        Some(_) => None,
+        None => Some((0, 0)),
+    }
+}
+
+// The first of so many entries of a page of the directory that has the name, or is empty where none is asked for, counted
+// from the page's first one on.
 fn find_in_page<R: Wait, S: Stake>(
     rt: &R,
     body: &InodeBody,
     s: &mut S,
-    name: &Name,
+    name: &Option<Name>,
     page: u32,
     count: u32,
 ) -> Result<Option<Found>, Refusal>
@@ -87,7 +112,7 @@ fn find_in_page<R: Wait, S: Stake>(
     requires count { 16 * count ≤ (S.origin s.old).sizes.block_size }
     requires lent { S.lent s.old ≡ nothing_lent }
     ensures found { (node : Node) → StandsFor (S.origin s.old) (S.held s.old) body.now node
-        → IfOk result (Finds (λ j. is_entry (S.origin s.old).sizes.block_size node name.now (64 * page + j))
+        → IfOk result (Finds (λ j. is_at (S.origin s.old).sizes.block_size node name.now (64 * page + j))
         (λ j. entry_inode (S.origin s.old).sizes.block_size node (64 * page + j)) count) }
     ensures within { IfOk result (λ found. IfSome found (λ found. found.0 < count)) }
     ensures stake { Unchanged S.held S.lent S.origin S.forced s.old s.new }
@@ -96,27 +121,28 @@ fn find_in_page<R: Wait, S: Stake>(
     let _sizes = s.geometry();
     let block = lookup(rt, &body.addresses, s, page)?;
     let Some(b) = block else {
-        return Ok(None);
+        return Ok(find_in_hole(name, count));
     };
     let buf = s.bread(rt, b)?;
     let bytes = buf.bytes();
-    let found = find_named(bytes, name, count);
+    let found = find_sought(bytes, name, count);
     s.brelse(rt, buf);
     Ok(found)
 }
 
-// The first entry of the directory that has the name (Bach, chapter 4.4, algorithm namei), page by page.
+// The first entry of the directory that has the name (Bach, chapter 4.4, algorithm namei), or is empty where none is asked
+// for, page by page.
 fn find_entry<R: Wait, S: Stake>(
     rt: &R,
     body: &InodeBody,
     s: &mut S,
-    name: &Name,
+    name: &Option<Name>,
 ) -> Result<Option<Found>, Refusal>
     requires tree { IsTree (S.origin s.old) (S.held s.old) body.now.addresses }
     requires size { body.now.size ≤ greatest_size (S.origin s.old).sizes }
     requires lent { S.lent s.old ≡ nothing_lent }
     ensures found { (node : Node) → StandsFor (S.origin s.old) (S.held s.old) body.now node
-        → IfOk result (Finds (is_entry (S.origin s.old).sizes.block_size node name.now)
+        → IfOk result (Finds (is_at (S.origin s.old).sizes.block_size node name.now)
         (entry_inode (S.origin s.old).sizes.block_size node) (body.now.size / 16)) }
     ensures within { IfOk result (λ found. IfSome found (λ found. found.0 < body.now.size / 16)) }
     ensures stake { Unchanged S.held S.lent S.origin S.forced s.old s.new }
@@ -211,7 +237,8 @@ impl<S: Stake> LockedInode<S> {
         ensures stake { Unchanged S.held S.lent S.origin S.forced self.old.stake self.new.stake }
         ensures cause { HasFault (S.faults self.old.stake) (S.faults self.new.stake) result }
     {
-        match find_entry(rt, &self.body, &mut self.stake, name)? {
+        let sought = Some(*name);
+        match find_entry(rt, &self.body, &mut self.stake, &sought)? {
             Some((_, inode)) => Ok(Some(inode)),
             None => Ok(None),
         }
@@ -234,7 +261,8 @@ impl<S: Stake> LockedInode<S> {
         ensures front { KeepsFront S.held S.lent S.origin S.forced S.faults self.old.stake self.new.stake }
         ensures cause { HasFault (S.faults self.old.stake) (S.faults self.new.stake) result }
     {
-        let found = find_entry(rt, &self.body, &mut self.stake, name)?;
+        let sought = Some(*name);
+        let found = find_entry(rt, &self.body, &mut self.stake, &sought)?;
         match found {
             Some((place, _)) => blank_entry(rt, &self.body, &mut self.stake, place),
             None => Ok(()),

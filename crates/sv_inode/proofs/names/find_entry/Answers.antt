@@ -1,8 +1,7 @@
 -- The entries before the page have another name, and so has the page, or its first one with the name is the directory's.
 use Rattle.std.proofs.Common.{◌<◌, ◌+◌, ◌*◌, ◌/◌, ℕ, Option, IfSome, arith, ap, ◌∙◌, subst}
 use Rattle.sv_form.specs.Node.{entry_inode}
-use Rattle.sv_form.specs.NodeNames.{is_entry}
-use Rattle.sv_inode.specs.Names.{Finds}
+use Rattle.sv_inode.specs.Names.{Finds, is_at}
 use Rattle.sv_inode.proofs.FoundNames.{first-more, found-since, none-more, place-fits}
 use Rattle.sv_inode.proofs.PageParts.{page_below}
 use Rattle.sv_inode.proofs.PagesHeld.{size_some}
@@ -20,12 +19,12 @@ overflow_add-result g c = omega (
 
 pub returns-in-Some-clause-found : goal.returns-in-Some-clause-found
 returns-in-Some-clause-found g c = λ node stands.
-    first-more (is_entry (g.S.Stake.origin c.args.s.now).sizes.block_size node c.args.name.now)
+    first-more (is_at (g.S.Stake.origin c.args.s.now).sizes.block_size node c.args.name.now)
     (entry_inode (g.S.Stake.origin c.args.s.now).sizes.block_size node) c.geometry-sizes.result.block_size c.args.body.now.size
     c.loop-page.page (c.min-count.result / 16) (c.in-Some.place, c.in-Some.inode) c.geometry-sizes.ensures.sizes.block_size
     (omega (arith, below)) (ap (λ q. q / 16) c.min-count.ensures) (c.loop-page.invariant.before node stands)
     (let P : Option (ℕ × ℕ) → Type 0 = λ x. Finds
-    (λ j. is_entry (g.S.Stake.origin c.args.s.now).sizes.block_size node c.args.name.now (64 * c.loop-page.page + j))
+    (λ j. is_at (g.S.Stake.origin c.args.s.now).sizes.block_size node c.args.name.now (64 * c.loop-page.page + j))
     (λ j. entry_inode (g.S.Stake.origin c.args.s.now).sizes.block_size node (64 * c.loop-page.page + j)) (c.min-count.result / 16) x in
     subst P c.in-Some.is
     (found-since c.loop-page.page (c.min-count.result / 16) c.args.name.now c.in_ok-place.field-0
@@ -38,11 +37,11 @@ returns-in-Some-clause-found g c = λ node stands.
 pub loop-page-preserved : goal.loop-page-preserved
 loop-page-preserved g c = record {
   before = λ node stands.
-      none-more (is_entry (g.S.Stake.origin c.args.s.now).sizes.block_size node c.args.name.now) c.geometry-sizes.result.block_size
+      none-more (is_at (g.S.Stake.origin c.args.s.now).sizes.block_size node c.args.name.now) c.geometry-sizes.result.block_size
       c.args.body.now.size c.loop-page.page (c.min-count.result / 16) c.geometry-sizes.ensures.sizes.block_size
       (ap (λ q. q / 16) c.min-count.ensures) (c.loop-page.invariant.before node stands)
       (let P : Option (ℕ × ℕ) → Type 0 = λ x. Finds
-      (λ j. is_entry (g.S.Stake.origin c.args.s.now).sizes.block_size node c.args.name.now (64 * c.loop-page.page + j))
+      (λ j. is_at (g.S.Stake.origin c.args.s.now).sizes.block_size node c.args.name.now (64 * c.loop-page.page + j))
       (λ j. entry_inode (g.S.Stake.origin c.args.s.now).sizes.block_size node (64 * c.loop-page.page + j)) (c.min-count.result / 16) x in
       subst P c.in_default.is
       (found-since c.loop-page.page (c.min-count.result / 16) c.args.name.now c.in_ok-place.field-0

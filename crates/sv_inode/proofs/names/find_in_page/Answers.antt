@@ -1,19 +1,18 @@
 -- What is found in the page's bytes is found in the node, and the block goes back as it came.
 use Rattle.std.proofs.Common.{◌≡◌, ◌*◌, ℕ, List, sym, ap, ◌∙◌, refl, subst, arith}
 use Rattle.sv_form.specs.Geometry.{IsGeometry}
-use Rattle.sv_form.specs.Number.{number16}
 use Rattle.sv_form.specs.declared.geometry.Geometry.{Geometry}
 use Rattle.sv_store.specs.Held.{HoldsBlock, Lent, without}
 use Rattle.sv_store.proofs.Holding.{CanReturn-got, without-with}
-use Rattle.sv_inode.specs.Names.{Finds, is_named}
+use Rattle.sv_inode.specs.Names.{Finds, inode_in, is_sought_at}
 use Rattle.sv_inode.proofs.FoundNames.{hole-found, page-found}
 use Rattle.sv_inode.proofs.PiecePut.{some-held}
 use Rattle.sv_inode.proofs.names.find_in_page.Goals as goal
 
 pub returns-in_default-clause-found : goal.returns-in_default-clause-found
 returns-in_default-clause-found g c = λ node stands.
-    hole-found node c.args.page c.args.count c.args.name.now sizes c.requires.page c.requires.count stands
-    (sym c.in_ok-block.ensures.block ∙ c.in_default.is)
+    hole-found node c.args.page c.args.count c.args.name.now c.find_in_hole.result sizes c.requires.page c.requires.count stands
+    (sym c.in_ok-block.ensures.block ∙ c.in_default.is) c.find_in_hole.ensures.found
   where
     sizes : IsGeometry (g.S.Stake.origin c.args.s.now).sizes
     sizes = let P : Geometry → Type 0 = λ q. IsGeometry q in subst P c.geometry-sizes.ensures.value c.geometry-sizes.ensures.sizes
@@ -39,11 +38,11 @@ brelse-requires g c = CanReturn-got c.in_ok-buf.ensures.ok _ _ c.in_ok-buf.ensur
 
 pub returns-clause-found : goal.returns-clause-found
 returns-clause-found g c = λ node stands.
-    page-found node c.args.page c.args.count c.args.name.now c.find_named-found.result sizes c.requires.page c.requires.count stands
+    page-found node c.args.page c.args.count c.args.name.now c.find_sought-found.result sizes c.requires.page c.requires.count stands
     (sym c.in_ok-block.ensures.block ∙ c.in-Some.is) c.lookup.ensures.stake.home c.lookup.ensures.stake.lines c.in_ok-buf.ensures.ok
-    (let P : List ℕ → Type 0 = λ q. Finds (λ j. is_named q c.args.name.now (16 * j)) (λ j. number16 q (16 * j)) c.args.count
-    c.find_named-found.result in
-    subst P c.bytes-bytes.ensures c.find_named-found.ensures.found)
+    (let P : List ℕ → Type 0 = λ q. Finds (is_sought_at q c.args.name.now) (inode_in q) c.args.count
+    c.find_sought-found.result in
+    subst P c.bytes-bytes.ensures c.find_sought-found.ensures.found)
   where
     sizes : IsGeometry (g.S.Stake.origin c.args.s.now).sizes
     sizes = let P : Geometry → Type 0 = λ q. IsGeometry q in subst P c.geometry-sizes.ensures.value c.geometry-sizes.ensures.sizes

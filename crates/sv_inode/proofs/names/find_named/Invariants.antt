@@ -1,6 +1,0 @@
-use Rattle.std.proofs.Common.{◌≡◌, ◌<◌, ◌*◌, ℕ, false}
-use Rattle.sv_inode.specs.Names.{is_named}
-use Rattle.sv_inode.proofs.names.find_named.Given as goal
-
-abbrev pub invariant-loop-place : goal.invariant-loop-place
-invariant-loop-place l = (k : ℕ) → k < l.place → is_named l.page l.name (16 * k) ≡ false
