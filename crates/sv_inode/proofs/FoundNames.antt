@@ -1,9 +1,9 @@
 -- An entry that is found in the bytes of a page is the entry of the node, and the first one leads where the name leads.
 use Rattle.std.proofs.Common.{◌≡◌, ◌≤◌, ◌^◌, ◌<◌, ◌+◌, ◌-◌, ◌*◌, ◌/◌, ◌%◌, ◌==◌, ◌&&◌, ℕ, Bool, true, false, cond, not, List, [], ◌∷◌}
-use Rattle.std.proofs.Common.{length, min, take, drop, get_or, slice_range, Option, Some, None, option_map, nat_lt, arith, refl}
+use Rattle.std.proofs.Common.{length, min, take, drop, get_or, slice_range, Option, Some, None, option_map, unwrap_or, nat_lt, arith, refl}
 use Rattle.std.proofs.Common.{sym, ap, ◌∙◌, subst}
 use Rattle.std.specs.FinMap as fmap
-use Rattle.std.specs.List.{range_with_len, position_or_len}
+use Rattle.std.specs.List.{range_with_len, position, position_or_len}
 use Rattle.std.proofs.lemmas.Bool.Decides.{nat_tests}
 use Rattle.std.proofs.lemmas.List.{get_or-drop, get_or-take, length-drop, length-take}
 use Rattle.std.proofs.lemmas.List.FromFn.{length-range_with_len, get_or-range_with_len}
@@ -12,7 +12,7 @@ use Rattle.std.proofs.lemmas.List.Sums.{position_or_len_is}
 use Rattle.sv_form.specs.Entries.{until_zero}
 use Rattle.sv_form.specs.Geometry.{IsGeometry}
 use Rattle.sv_form.specs.Node.{Node, byte_of, bytes_of, entry_count, entry_inode, entry_name, page_byte}
-use Rattle.sv_form.specs.NodeNames.{child_of, is_entry, place_of, same_bytes}
+use Rattle.sv_form.specs.NodeNames.{child_of, empty_place, is_entry, place_of, same_bytes}
 use Rattle.sv_form.specs.Number.{number16}
 use Rattle.sv_form.specs.PagePath.{IsPage}
 use Rattle.sv_form.specs.declared.inode.InodeBody.{InodeBody}
@@ -20,6 +20,7 @@ use Rattle.sv_store.specs.Calls.{Gets}
 use Rattle.sv_store.specs.Held.{Held, Origin}
 use Rattle.sv_store.specs.Loan.{Loan}
 use Rattle.sv_inode.specs.Contents.{block_of}
+use Rattle.sv_inode.specs.Enter.{entry_place}
 use Rattle.sv_inode.specs.Names.{Finds, IsFirst, inode_in, is_at, is_named, is_sought_at, is_sought_in_hole}
 use Rattle.sv_inode.specs.StandsFor.{StandsFor}
 use Rattle.sv_inode.proofs.PageParts.{list_is_map}
@@ -297,37 +298,56 @@ first-place p n i within before here =
     own : (k : ℕ) → k < n → get_or (range_with_len 0 n) k 0 ≡ k
     own k h = omega (arith, get_or-range_with_len 0 n k 0 h)
 
+found-first : (p : ℕ → Bool) (n i : ℕ) → i < n → ((k : ℕ) → k < i → p k ≡ false) → p i ≡ true
+    → position p (range_with_len 0 n) ≡ Some i
+found-first p n i within before here =
+    ap (λ j. cond (nat_lt j (length (range_with_len 0 n))) (Some j) None)
+    (first-place p n i (omega (arith, within)) before (λ _. here)) ∙ ap (λ t. cond t (Some i) None) inside
+  where
+    yes : (a b : ℕ) → a < b → nat_lt a b ≡ true
+    yes a b h = grind (nat_tests, arith)
+
+    inside : nat_lt i (length (range_with_len 0 n)) ≡ true
+    inside = yes i (length (range_with_len 0 n)) (omega (arith, within, length-range_with_len 0 n))
+
+none-first : (p : ℕ → Bool) (n : ℕ) → ((k : ℕ) → k < n → p k ≡ false) → position p (range_with_len 0 n) ≡ None
+none-first p n none =
+    ap (λ j. cond (nat_lt j (length (range_with_len 0 n))) (Some j) None)
+    (first-place p n n (omega arith) none (λ low. absurd (omega (arith, low)))) ∙ ap (λ t. cond t (Some n) None) outside
+  where
+    no : (a b : ℕ) → b ≤ a → nat_lt a b ≡ false
+    no a b h = grind (nat_tests, arith)
+
+    outside : nat_lt n (length (range_with_len 0 n)) ≡ false
+    outside = no n (length (range_with_len 0 n)) (omega (arith, length-range_with_len 0 n))
+
 -- where the first entry with the name stands
 pub place-first : (block : ℕ) (node : Node) (name : List ℕ) (n : ℕ) (found : ℕ × ℕ) → n ≡ entry_count node
     → IsFirst (is_entry block node name) (entry_inode block node) n found → place_of block node name ≡ Some found.0
 unfolding place_of
 place-first block node name n found size finds =
-    ap (λ j. cond (nat_lt j (length (range_with_len 0 (entry_count node)))) (Some j) None)
-    (first-place (is_entry block node name) (entry_count node) found.0 (omega (arith, size, finds.within)) finds.before (λ _. finds.here))
-    ∙ ap (λ t. cond t (Some found.0) None) inside
-  where
-    yes : (a b : ℕ) → a < b → nat_lt a b ≡ true
-    yes a b h = grind (nat_tests, arith)
-
-    inside : nat_lt found.0 (length (range_with_len 0 (entry_count node))) ≡ true
-    inside = yes found.0 (length (range_with_len 0 (entry_count node)))
-        (omega (arith, size, finds.within, length-range_with_len 0 (entry_count node)))
+    found-first (is_entry block node name) (entry_count node) found.0 (omega (arith, size, finds.within)) finds.before finds.here
 
 pub no-place : (block : ℕ) (node : Node) (name : List ℕ) (n : ℕ) → n ≡ entry_count node
     → ((k : ℕ) → k < n → is_entry block node name k ≡ false) → place_of block node name ≡ None
 unfolding place_of
 no-place block node name n size none =
-    ap (λ j. cond (nat_lt j (length (range_with_len 0 (entry_count node)))) (Some j) None)
-    (first-place (is_entry block node name) (entry_count node) (entry_count node) (omega arith)
-    (λ k low. none k (omega (arith, low, size))) (λ low. absurd (omega (arith, low))))
-    ∙ ap (λ t. cond t (Some (entry_count node)) None) outside
-  where
-    no : (a b : ℕ) → b ≤ a → nat_lt a b ≡ false
-    no a b h = grind (nat_tests, arith)
+    none-first (is_entry block node name) (entry_count node) (λ k low. none k (omega (arith, low, size)))
 
-    outside : nat_lt (entry_count node) (length (range_with_len 0 (entry_count node))) ≡ false
-    outside = no (entry_count node) (length (range_with_len 0 (entry_count node)))
-        (omega (arith, length-range_with_len 0 (entry_count node)))
+-- where a name is entered: into the first empty entry, or after the last one
+pub place-empty : (block : ℕ) (node : Node) (n : ℕ) (found : ℕ × ℕ) → n ≡ entry_count node
+    → IsFirst (is_at block node None) (entry_inode block node) n found → found.0 ≡ entry_place block node
+unfolding empty_place
+place-empty block node n found size finds =
+    sym (ap (λ q. unwrap_or q (entry_count node))
+    (found-first (is_at block node None) (entry_count node) found.0 (omega (arith, size, finds.within)) finds.before finds.here))
+
+pub place-last : (block : ℕ) (node : Node) (n : ℕ) → n ≡ entry_count node
+    → ((k : ℕ) → k < n → is_at block node None k ≡ false) → n ≡ entry_place block node
+unfolding empty_place
+place-last block node n size none =
+    size ∙ sym (ap (λ q. unwrap_or q (entry_count node))
+    (none-first (is_at block node None) (entry_count node) (λ k low. none k (omega (arith, low, size)))))
 
 pub looked : (block : ℕ) (node : Node) (name : List ℕ) (n : ℕ) (found : ℕ × ℕ) → n ≡ entry_count node
     → IsFirst (is_entry block node name) (entry_inode block node) n found → Some found.1 ≡ child_of block node name

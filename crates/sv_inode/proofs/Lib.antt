@@ -2,6 +2,7 @@ mod Blanked
 mod DirectorySample
 mod ElevenPages
 mod Emptied
+mod Entered
 mod FourPages
 mod FoundNames
 mod FrontLines

@@ -1,11 +1,10 @@
 -- A stake that holds only the inode's line and the lines of its tree holds no others once bytes were put.
-use Rattle.std.proofs.Common.{◌≡◌, ◌≢◌, ◌<◌, ◌+◌, ◌-◌, ◌⊎◌, inl, inr, ℕ, Bool, true, false, cond, List, length, take, get_or, map}
+use Rattle.std.proofs.Common.{◌≡◌, ◌<◌, ◌+◌, ◌-◌, ◌⊎◌, inl, inr, ℕ, Bool, true, false, cond, List, length, take, get_or, map}
 use Rattle.std.proofs.Common.{nat_lt, Some, IsSome, is_some, Result, Ok, Err, OnOk, OnErr, refl, sym, ap, ◌∙◌, subst, arith}
 use Rattle.std.proofs.lemmas.Bool.{false≢true}
 use Rattle.std.proofs.lemmas.Bool.Decides.{nat_tests}
 use Rattle.sv_form.specs.Geometry.{IsGeometry, inode_place}
 use Rattle.sv_form.specs.PagePath.{IsPage}
-use Rattle.sv_form.specs.declared.geometry.Geometry.{Geometry}
 use Rattle.sv_store.specs.Held.{Both, Held, Lent, Origin, SameLines, put}
 use Rattle.sv_store.proofs.Holding.{is_some-Both}
 use Rattle.sv_super.specs.Count.{times}

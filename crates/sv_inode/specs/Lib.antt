@@ -1,4 +1,5 @@
 pub mod Contents
+pub mod Enter
 pub mod Frames
 pub mod InodeLine
 pub mod Names

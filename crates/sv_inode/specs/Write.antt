@@ -83,6 +83,10 @@ abbrev pub stop_of : Refusal → WriteStop
 stop_of refused.Fault = Short 0
 stop_of refused.NoMemory = NoMemory 0
 
+abbrev pub refusal_by : WriteStop → Refusal
+refusal_by (Short done) = refused.Fault
+refusal_by (NoMemory done) = refused.NoMemory
+
 -- A free block is taken: it comes with its lines as the last of those that were taken.
 pub record TakesCut {S : Type 0} (held : S → Held) (lent : S → Lent) (origin : S → Origin) (forced : S → Bool) (faults : S → ℕ)
     (old new : Core S) (cuts more : List (ℕ × S)) : Type 0 where

@@ -6,10 +6,12 @@
 //! - `writei` puts bytes into the node; it takes all blocks before it puts one.
 //! - `truncate` makes the file empty, and gives its blocks back.
 //! - `update` puts the body into the inode's line.
-//! - `look` gives the inode that a name leads to in a directory, and `clear` makes the entry of a name empty.
+//! - `look` gives the inode that a name leads to in a directory, `enter` puts a name with its inode into the first empty entry or at
+//!   the end, and `clear` makes the entry of a name empty.
 #![tactic(auto)]
 
 mod cuts;
+mod enter;
 mod fill;
 mod locked;
 mod names;

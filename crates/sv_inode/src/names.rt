@@ -1,5 +1,5 @@
 // The names of a directory.
-ghost use Rattle.std.specs.Prelude.{◌≡◌, ◌≢◌, ◌≤◌, ◌<◌, ◌+◌, ◌*◌, ◌/◌, ℕ, IfOk, IfSome, IsSome, OnErr, OnOk, length, replicate};
+ghost use Rattle.std.specs.Prelude.{◌≡◌, ◌≢◌, ◌≤◌, ◌<◌, ◌+◌, ◌*◌, ◌/◌, ℕ, IfOk, IfSome, IsSome, None, OnErr, OnOk, length, replicate};
 ghost use Rattle.std.specs.Prelude.{slice_index};
 ghost use Rattle.sv_form.specs.Entries.{until_zero};
 ghost use Rattle.sv_form.specs.Node.{Node, entry_inode};
@@ -16,6 +16,7 @@ ghost use Rattle.sv_bmap.specs.Tree.{IsTree};
 ghost use Rattle.sv_inode.specs.Frames.{KeepsFront};
 ghost use Rattle.sv_inode.specs.Names.{Finds, inode_in, is_at, is_named, is_sought, is_sought_at, is_sought_in_hole};
 ghost use Rattle.sv_inode.specs.StandsFor.{HasTree, StandsFor};
+ghost use Rattle.sv_inode.specs.Truncate.{HoldsOnly};
 ghost use Rattle.sv_inode.specs.Write.{patched};
 
 use crate::LockedInode;
@@ -132,7 +133,7 @@ fn find_in_page<R: Wait, S: Stake>(
 
 // The first entry of the directory that has the name (Bach, chapter 4.4, algorithm namei), or is empty where none is asked
 // for, page by page.
-fn find_entry<R: Wait, S: Stake>(
+pub(crate) fn find_entry<R: Wait, S: Stake>(
     rt: &R,
     body: &InodeBody,
     s: &mut S,
@@ -207,6 +208,8 @@ fn blank_entry<R: Wait, S: Stake>(
     ensures node { (node : Node) → StandsFor (S.origin s.old) (S.held s.old) body.now node
         → OnOk result (StandsFor (S.origin s.new) (S.held s.new) body.now
         (changes.put (S.origin s.old).sizes.block_size node (16 * place) (replicate 16 0))) }
+    ensures only { (n : ℕ) → HoldsOnly (S.origin s.old) (S.held s.old) n body.now.addresses
+        → HoldsOnly (S.origin s.old) (S.held s.new) n body.now.addresses }
     ensures kept { OnErr result (S.held s.new ≡ S.held s.old) }
     ensures lines { SameLines (S.held s.new) (S.held s.old) }
     ensures front { KeepsFront S.held S.lent S.origin S.forced S.faults s.old s.new }
@@ -245,7 +248,8 @@ impl<S: Stake> LockedInode<S> {
     }
 
     /// Makes the entry with this name empty (Bach, chapter 5.16, algorithm unlink): all its bytes become zero. It is meant
-    /// for a name that is there. A refusal is a fault that the stake has counted, and changes no line.
+    /// for a name that is there, and changes no line for another. A refusal is a fault that the stake has counted, and changes
+    /// no line.
     pub fn clear<R: Wait>(&mut self, rt: &R, name: &Name) -> Result<(), Refusal>
         requires tree { HasTree (S.origin self.old.stake) (S.held self.old.stake) self.old.body.addresses }
         requires size { self.old.body.size ≤ greatest_size (S.origin self.old.stake).sizes }
@@ -254,6 +258,11 @@ impl<S: Stake> LockedInode<S> {
             → IsSome (place_of (S.origin self.old.stake).sizes.block_size node name.now)
             → OnOk result (StandsFor (S.origin self.new.stake) (S.held self.new.stake) self.new.body
             (without_entry (S.origin self.old.stake).sizes.block_size name.now node)) }
+        ensures absent { (node : Node) → StandsFor (S.origin self.old.stake) (S.held self.old.stake) self.old.body node
+            → place_of (S.origin self.old.stake).sizes.block_size node name.now ≡ None
+            → OnOk result (S.held self.new.stake ≡ S.held self.old.stake) }
+        ensures only { (n : ℕ) → HoldsOnly (S.origin self.old.stake) (S.held self.old.stake) n self.old.body.addresses
+            → HoldsOnly (S.origin self.old.stake) (S.held self.new.stake) n self.new.body.addresses }
         ensures kept { OnErr result (S.held self.new.stake ≡ S.held self.old.stake) }
         ensures lines { SameLines (S.held self.new.stake) (S.held self.old.stake) }
         ensures number { self.new.number ≡ self.old.number }

@@ -1,6 +1,6 @@
 // Where a write ends that cannot put all its bytes.
 ghost use Rattle.std.specs.Prelude.{◌≡◌};
-ghost use Rattle.sv_inode.specs.Write.{stop_of};
+ghost use Rattle.sv_inode.specs.Write.{refusal_by, stop_of};
 
 use sv_store::Refusal;
 
@@ -18,5 +18,15 @@ pub(crate) fn at_once(refusal: Refusal) -> WriteStop
     match refusal {
         Refusal::Fault => WriteStop::Short { done: 0 },
         Refusal::NoMemory => WriteStop::NoMemory { done: 0 },
+    }
+}
+
+// The refusal of a write that put nothing.
+pub(crate) fn refusal_of(stop: WriteStop) -> Refusal
+    ensures { result ≡ refusal_by stop }
+{
+    match stop {
+        WriteStop::Short { done: _ } => Refusal::Fault,
+        WriteStop::NoMemory { done: _ } => Refusal::NoMemory,
     }
 }

@@ -1,10 +1,12 @@
 -- The entry's page is present, and has zero bytes at its place then; its block is a data block.
-use Rattle.std.proofs.Common.{◌≡◌, ◌*◌, ◌/◌, ◌%◌, arith, sym, ap, ◌∙◌, refl}
+use Rattle.std.proofs.Common.{◌≡◌, ◌*◌, ◌/◌, ◌%◌, arith, replicate, sym, ap, ◌∙◌, refl}
 use Rattle.std.proofs.lemmas.Result.{IfOk-weaker}
 use Rattle.sv_form.specs.Geometry.{IsDataBlock, IsGeometry}
 use Rattle.sv_form.specs.PagePath.{IsPage}
 use Rattle.sv_inode.proofs.Blanked.{entry-blanked, entry-page, from-at, page-at, sizes-same}
 use Rattle.sv_inode.proofs.FoundNames.{place-hole}
+use Rattle.sv_inode.specs.Write.{patched}
+use Rattle.sv_inode.proofs.OwnLines.{on-either, only-same, only-written}
 use Rattle.sv_inode.proofs.PiecePut.{some-held}
 use Rattle.sv_inode.proofs.WrittenTree.{page-in-data}
 use Rattle.sv_inode.proofs.names.blank_entry.Goals as goal
@@ -68,3 +70,19 @@ returns-in-None-clause-node g c = λ node stands.
 
     at : 16 * c.args.place / c.geometry-sizes.result.block_size ≡ 16 * c.args.place / 1024
     at = page-at c.geometry-sizes.result c.geometry-sizes.result c.args.place refl c.geometry-sizes.ensures.sizes
+
+pub returns-in-Some-clause-only : goal.returns-in-Some-clause-only
+returns-in-Some-clause-only g c = λ n was.
+    on-either c.blank_in.result
+    (λ got. only-written (16 * c.args.place / c.geometry-sizes.result.block_size)
+    (patched got.0.bytes (16 * c.args.place % c.geometry-sizes.result.block_size) (replicate 16 0)) n sizes is c.requires.tree.tree
+    (sym c.in_ok-block.ensures.block ∙ c.in-Some.is) c.lookup.ensures.stake.lines got.1.1 was)
+    (λ same. only-same (same ∙ c.lookup.ensures.stake.lines) refl was) c.blank_in.ensures.ok c.blank_in.ensures.err
+  where
+    sizes : IsGeometry (g.S.Stake.origin c.args.s.now).sizes
+    sizes = sizes-same c.geometry-sizes.ensures.value c.geometry-sizes.ensures.sizes
+
+    is : IsPage (g.S.Stake.origin c.args.s.now).sizes (16 * c.args.place / c.geometry-sizes.result.block_size)
+    is = entry-page (g.S.Stake.origin c.args.s.now).sizes c.args.place (16 * c.args.place / c.geometry-sizes.result.block_size)
+        c.args.body.now.size sizes c.requires.size c.requires.place
+        (page-at c.geometry-sizes.result c.geometry-sizes.result c.args.place refl c.geometry-sizes.ensures.sizes)

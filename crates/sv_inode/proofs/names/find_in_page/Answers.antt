@@ -1,5 +1,5 @@
 -- What is found in the page's bytes is found in the node, and the block goes back as it came.
-use Rattle.std.proofs.Common.{◌≡◌, ◌*◌, ℕ, List, sym, ap, ◌∙◌, refl, subst, arith}
+use Rattle.std.proofs.Common.{◌≡◌, ℕ, List, sym, ap, ◌∙◌, refl, subst, arith}
 use Rattle.sv_form.specs.Geometry.{IsGeometry}
 use Rattle.sv_form.specs.declared.geometry.Geometry.{Geometry}
 use Rattle.sv_store.specs.Held.{HoldsBlock, Lent, without}

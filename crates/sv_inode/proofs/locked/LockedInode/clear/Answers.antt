@@ -35,3 +35,12 @@ returns-in-None-clause-node g c = λ node stands is.
     absurd (false≢true (sym (ap is_some
     (no-place (g.S.Stake.origin c.args.self.now.stake).sizes.block_size node c.args.name.now (c.args.self.now.body.size / 16)
     (ap (λ q. q / 16) stands.described.size) (subst Q c.in-None.is (c.in_ok-found.ensures.found node stands)))) ∙ is)))
+
+pub returns-in-Some-clause-absent : goal.returns-in-Some-clause-absent
+returns-in-Some-clause-absent g c = λ node stands absent.
+    (let Q : Option (ℕ × ℕ) → Type 0 = λ x. Finds (is_at (g.S.Stake.origin c.args.self.now.stake).sizes.block_size node (Some c.args.name.now))
+    (entry_inode (g.S.Stake.origin c.args.self.now.stake).sizes.block_size node) (c.args.self.now.body.size / 16) x in
+    absurd (false≢true (sym (ap is_some absent) ∙ ap is_some
+    (place-first (g.S.Stake.origin c.args.self.now.stake).sizes.block_size node c.args.name.now (c.args.self.now.body.size / 16)
+    (c.in-Some.place, c.in-Some.field-0-1) (ap (λ q. q / 16) stands.described.size)
+    (subst Q c.in-Some.is (c.in_ok-found.ensures.found node stands))))))
