@@ -3,7 +3,7 @@ use Rattle.std.proofs.Common.{◌≡◌, ◌≤◌, ◌<◌, ◌+◌, ◌==◌, 
 use Rattle.std.proofs.Math.Path.{fun_ext}
 use Rattle.std.proofs.lemmas.Grind.{common_steps}
 use Rattle.std.proofs.lemmas.List.{length-map}
-use Rattle.sv_check.specs.declared.standings.Standing.{Standing}
+use Rattle.sv_check.specs.declared.sound.standings.Standing.{Standing}
 use Rattle.sv_check.specs.Climbs.{climbed, step_up}
 use Rattle.sv_check.specs.Standings.{unnamed}
 

@@ -6,7 +6,7 @@ use Rattle.sv_form.specs.declared.geometry.Geometry.{Geometry}
 use Rattle.sv_form.specs.Geometry.{IsGeometry}
 use Rattle.sv_form.specs.Image.{block_of, inode_of}
 use Rattle.sv_plain.specs.Front.{size_of}
-use Rattle.sv_check.specs.declared.entries.SeenNames.{SeenNames}
+use Rattle.sv_check.specs.declared.sound.entries.SeenNames.{SeenNames}
 use Rattle.sv_check.specs.declared.pages.PageBlock.{PageBlock}
 use Rattle.sv_check.specs.Directories.{are_entries, contents, entries, has_no_hole, page_in, pieces}
 use Rattle.sv_check.specs.EntrySteps.{are_good_after, seen_after, Takes}

@@ -7,7 +7,7 @@ use Rattle.std.proofs.lemmas.List.{drop-drop}
 use Rattle.sv_form.specs.declared.geometry.Geometry.{Geometry}
 use Rattle.sv_form.specs.Geometry.{inode_count}
 use Rattle.sv_form.specs.Image.{inode_of}
-use Rattle.sv_check.specs.declared.entries.SeenNames.{SeenNames}
+use Rattle.sv_check.specs.declared.sound.entries.SeenNames.{SeenNames}
 use Rattle.sv_check.specs.Directories.{leads_somewhere, name_in, named_by, pieces, reads_entry}
 use Rattle.sv_check.specs.EntrySteps.{are_good_after, is_good, is_taken, seen_after, Takes, with_entry}
 use Rattle.sv_check.specs.InodeList.{is_free}

@@ -14,7 +14,7 @@ use Rattle.sv_form.specs.Image.{block_of, geometry_of, inode_of}
 use Rattle.sv_form.specs.Node as node
 use Rattle.sv_form.specs.Node.{Node, byte_of, bytes_of, is_dir}
 use Rattle.sv_plain.specs.Front.{page_byte, file_byte, file_bytes, size_of}
-use Rattle.sv_check.specs.declared.met.Met.{Met}
+use Rattle.sv_check.specs.declared.sound.met.Met.{Met}
 use Rattle.sv_check.specs.declared.pages.PageBlock.{PageBlock}
 use Rattle.sv_check.specs.FilePages.{IsFileSize, ShowsFile, block_at, file_of, file_pages, regular, text_of}
 use Rattle.sv_check.specs.InodeList.{is_directory, is_free, used_inodes}

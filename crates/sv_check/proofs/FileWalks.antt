@@ -6,7 +6,7 @@ use Rattle.std.proofs.lemmas.List.{append-nil}
 use Rattle.sv_form.specs.declared.geometry.Geometry.{Geometry}
 use Rattle.sv_form.specs.Geometry.{inode_count}
 use Rattle.sv_form.specs.Image.{inode_of}
-use Rattle.sv_check.specs.declared.met.Met.{Met}
+use Rattle.sv_check.specs.declared.sound.met.Met.{Met}
 use Rattle.sv_check.specs.InodeList.{is_free, size_flaw, used_inodes}
 use Rattle.sv_check.specs.Progress.{Progress, StopsAt, met_by}
 use Rattle.sv_check.specs.Walk.{first_bad, is_data_block, is_new, met_of, nothing_met, reached, range_flaw, twice_flaw, walk, with_met}

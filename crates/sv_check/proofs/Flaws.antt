@@ -2,7 +2,8 @@
 use Rattle.std.proofs.Common.{◌≡◌, ◌+◌, ◌∷◌, ◌∙◌, ℕ, Bool, true, false, List, Option, Some, None, ap, sym, refl, subst, inr, drop, if◌then◌else◌, option_and_then}
 use Rattle.sv_form.specs.declared.geometry.Geometry.{Geometry}
 use Rattle.sv_form.specs.Image.{geometry_of}
-use Rattle.sv_check.specs.declared.met.Met.{Met}
+use Rattle.sv_check.specs.Condition.{number_of}
+use Rattle.sv_check.specs.declared.sound.met.Met.{Met}
 use Rattle.sv_check.specs.declared.fault.CheckFault.{CheckFault}
 use Rattle.sv_check.specs.declared.fault.CheckFault.TheVariants.{Refused, Fault, NoMemory}
 use Rattle.sv_check.specs.Chain.{chain_flaw, lost_flaw}
@@ -161,8 +162,8 @@ first_at image g found bad same is e = sym e ∙ is ∙ ap (λ (k : Geometry). f
 pub says_bad : (image : List ℕ) (g : Geometry) (bad : Met) (fault memory : Type 0) → g ≡ geometry_of image → IsSized image → kind_flaw (geometry_of image) image ≡ None
     → size_flaw (geometry_of image) image ≡ None → Some bad ≡ first_bad (geometry_of image) nothing_met (walk (geometry_of image) image)
     → (answer : CheckFault) → Says (BadFlaw g bad) ⊥ ⊥ answer → Says (Flaw image) fault memory answer
-says_bad image g bad fault memory same sized kind size first (Refused number place) is =
-    fails_at_bad image sized kind size bad first number place (subst (λ (k : Geometry). BadFlaw k bad number place) same is)
+says_bad image g bad fault memory same sized kind size first (Refused condition place) is =
+    fails_at_bad image sized kind size bad first (number_of condition) place (subst (λ (k : Geometry). BadFlaw k bad (number_of condition) place) same is)
 says_bad image g bad fault memory same sized kind size first Fault is = absurd is
 says_bad image g bad fault memory same sized kind size first NoMemory is = absurd is
 

@@ -13,7 +13,7 @@ use Rattle.sv_form.specs.declared.place.Place.{Place}
 use Rattle.sv_form.specs.Geometry.{IsGeometry, inode_count, inode_place}
 use Rattle.sv_form.specs.Image.{block_of, geometry_of, inode_of}
 use Rattle.sv_form.specs.Owners.{owner_of}
-use Rattle.sv_check.specs.declared.met.Met.{Met}
+use Rattle.sv_check.specs.declared.sound.met.Met.{Met}
 use Rattle.sv_check.specs.Chain.{Chained, number, list, chain, chain_flaw, chained, chained_number, first_broken, lost_flaw, reads_list, walked}
 use Rattle.sv_check.specs.InodeList.{is_free, used_flags, used_inodes, inode_numbers}
 use Rattle.sv_check.specs.Progress.{met_at}

@@ -6,7 +6,7 @@ use Rattle.sv_form.specs.declared.geometry.Geometry.{Geometry}
 use Rattle.sv_form.specs.Geometry.{inode_count}
 use Rattle.sv_form.specs.Image.{inode_of}
 use Rattle.sv_plain.specs.Front.{address_of, size_of}
-use Rattle.sv_check.specs.declared.met.Met.{Met}
+use Rattle.sv_check.specs.declared.sound.met.Met.{Met}
 use Rattle.sv_check.specs.Chain.{walked}
 use Rattle.sv_check.specs.Directories.{directories}
 use Rattle.sv_check.specs.InodeList.{all_zero, is_directory, is_free, is_misread, is_missized, kind_flaw, size_flaw, used_inodes}

@@ -7,7 +7,7 @@ use Rattle.sv_form.specs.declared.geometry.Geometry.{Geometry}
 use Rattle.sv_form.specs.Geometry.{inode_count}
 use Rattle.sv_form.specs.Image.{inode_of}
 use Rattle.sv_plain.specs.Front.{size_of}
-use Rattle.sv_check.specs.declared.met.Met.{Met}
+use Rattle.sv_check.specs.declared.sound.met.Met.{Met}
 use Rattle.sv_check.specs.BlockOwners.{block_owner, reaches}
 use Rattle.sv_check.specs.InodeList.{used_inodes}
 use Rattle.sv_check.specs.Progress.{after, GoesOn, met_at, met_by, Progress, step}

@@ -9,7 +9,7 @@ use Rattle.sv_form.specs.Geometry.{inode_count}
 use Rattle.sv_form.specs.Image.{inode_of}
 use Rattle.sv_form.specs.PagePath.{greatest_size}
 use Rattle.sv_plain.specs.Front.{size_of}
-use Rattle.sv_check.specs.declared.met.Met.{Met}
+use Rattle.sv_check.specs.declared.sound.met.Met.{Met}
 use Rattle.sv_check.specs.declared.pages.Directory.{Directory}
 use Rattle.sv_check.specs.declared.pages.PageBlock.{PageBlock}
 use Rattle.sv_check.specs.Directories.{directories}

@@ -12,7 +12,7 @@ use Rattle.sv_form.specs.declared.geometry.Geometry.{Geometry}
 use Rattle.sv_form.specs.Geometry.{inode_count}
 use Rattle.sv_form.specs.Image.{inode_of}
 use Rattle.sv_plain.specs.Names.{same_bytes}
-use Rattle.sv_check.specs.declared.entries.SeenNames.{SeenNames}
+use Rattle.sv_check.specs.declared.sound.entries.SeenNames.{SeenNames}
 use Rattle.sv_check.specs.Directories.{name_in}
 use Rattle.sv_check.specs.EntrySteps.{is_taken}
 use Rattle.sv_check.specs.InodeList.{is_free, used_flags}

@@ -4,7 +4,7 @@ use Rattle.std.specs.List.{list_all}
 use Rattle.sv_form.specs.declared.geometry.Geometry.{Geometry}
 use Rattle.sv_form.specs.Geometry.{inode_count}
 use Rattle.sv_form.specs.Image.{geometry_of, inode_of}
-use Rattle.sv_check.specs.declared.met.Met.{Met}
+use Rattle.sv_check.specs.declared.sound.met.Met.{Met}
 use Rattle.sv_check.specs.Chain.{chain_flaw, lost_flaw}
 use Rattle.sv_check.specs.Directories.{dots_flaw, entry_flaw, root_flaw}
 use Rattle.sv_check.specs.InodeCache.{cache_flaw}

@@ -4,7 +4,7 @@ use Rattle.std.specs.List.{slice_range}
 use Rattle.std.proofs.Math.Path.{fun_ext}
 use Rattle.std.proofs.lemmas.Grind.{common_steps}
 use Rattle.std.proofs.lemmas.List.{drop-drop, length-set}
-use Rattle.sv_check.specs.declared.standings.Standing.{Standing}
+use Rattle.sv_check.specs.declared.sound.standings.Standing.{Standing}
 use Rattle.sv_check.specs.Directories.{named_by, pieces}
 use Rattle.sv_check.specs.Standings.{Told, after, named, put, step, told_from, unnamed, with_dots}
 use Rattle.sv_check.proofs.EntryTakes.{pieces-more}

@@ -3,7 +3,7 @@ use Rattle.std.proofs.Common.{◌≡◌, ◌≤◌, ◌+◌, ◌-◌, ◌^◌, �
 use Rattle.std.proofs.lemmas.Bool.{eqb-true}
 use Rattle.sv_form.specs.declared.geometry.Geometry.{Geometry}
 use Rattle.sv_plain.specs.Names.{same_bytes}
-use Rattle.sv_check.specs.declared.standings.Standing.{Standing}
+use Rattle.sv_check.specs.declared.sound.standings.Standing.{Standing}
 use Rattle.sv_check.specs.Directories.{Naming, above, dot, dots, entries, has_dot, holders_of, name_in, named_by}
 use Rattle.sv_check.specs.Standings.{Told, named, one_more, told_from, told_in, with_dots}
 use Rattle.sv_check.specs.Walk.{is_among}

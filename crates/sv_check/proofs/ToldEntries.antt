@@ -9,7 +9,7 @@ use Rattle.sv_form.specs.declared.geometry.Geometry.{Geometry}
 use Rattle.sv_form.specs.Geometry.{IsGeometry, inode_count}
 use Rattle.sv_form.specs.Image.{inode_of}
 use Rattle.sv_check.specs.declared.pages.Directory.{Directory}
-use Rattle.sv_check.specs.declared.standings.Standing.{Standing}
+use Rattle.sv_check.specs.declared.sound.standings.Standing.{Standing}
 use Rattle.sv_check.specs.Directories.{contents, directories, entries, leads_somewhere, named_by, names_in, has_twins, reads_entry}
 use Rattle.sv_check.specs.EntrySteps.{are_good_after, is_good, seen_after, Takes}
 use Rattle.sv_check.specs.InodeList.{is_free}

@@ -9,8 +9,8 @@ use Rattle.sv_form.specs.Geometry.{inode_count}
 use Rattle.sv_form.specs.Image.{inode_of}
 use Rattle.sv_form.specs.Node.{until_zero}
 use Rattle.sv_plain.specs.Names.{same_bytes, some_and}
-use Rattle.sv_check.specs.declared.standings.Standing.{Standing}
-use Rattle.sv_check.specs.declared.standings.Standings.{Standings}
+use Rattle.sv_check.specs.declared.sound.standings.Standing.{Standing}
+use Rattle.sv_check.specs.declared.sound.standings.Standings.{Standings}
 use Rattle.sv_check.specs.Climbs.{climbed, is_well_placed, step_up}
 use Rattle.sv_check.specs.Directories.{Naming, above, above_in, are_dots, are_entries, directories, dot, dots, dots_flaw, entries, entry_flaw, has_dot, has_dots_once, has_no_hole, has_twins, holders_of, is_placed, leads_somewhere, name_in, named_by, namings, names_in, reads_entry, rises_to_root}
 use Rattle.sv_check.specs.InodeList.{all_zero, is_directory}

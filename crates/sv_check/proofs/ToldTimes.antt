@@ -9,8 +9,8 @@ use Rattle.std.proofs.lemmas.Simd.{map-map}
 use Rattle.sv_form.specs.declared.geometry.Geometry.{Geometry}
 use Rattle.sv_form.specs.Geometry.{inode_count}
 use Rattle.sv_form.specs.Image.{inode_of}
-use Rattle.sv_check.specs.declared.standings.Standing.{Standing}
-use Rattle.sv_check.specs.declared.standings.Standings.{Standings}
+use Rattle.sv_check.specs.declared.sound.standings.Standing.{Standing}
+use Rattle.sv_check.specs.declared.sound.standings.Standings.{Standings}
 use Rattle.sv_check.specs.Directories.{Naming, directories, entries, named_by, namings, namings_of}
 use Rattle.sv_check.specs.InodeList.{inode_numbers, is_free, link_counts, links_of, used_flags, used_inodes}
 use Rattle.sv_check.specs.Links.{has_wrong_links, links_flaw, times_named}

@@ -8,7 +8,7 @@ use Rattle.std.proofs.lemmas.Grind.{common_steps}
 use Rattle.sv_form.specs.declared.geometry.Geometry.{Geometry}
 use Rattle.sv_form.specs.Image.{block_of}
 use Rattle.sv_form.specs.PagePath.{block_numbers}
-use Rattle.sv_check.specs.declared.met.Met.{Met}
+use Rattle.sv_check.specs.declared.sound.met.Met.{Met}
 use Rattle.sv_check.specs.declared.pages.PageBlock.{PageBlock}
 use Rattle.sv_check.specs.Pages.{page_at}
 use Rattle.sv_check.specs.PastSize.{is_past, has_tail}

@@ -11,7 +11,7 @@ use Rattle.sv_form.specs.Node.{used}
 use Rattle.sv_plain.specs.Fs as fs
 use Rattle.sv_plain.specs.Totals.{one_if}
 use Rattle.sv_plain.proofs.Counts.{count_all, count_changed}
-use Rattle.sv_check.specs.declared.met.Met.{Met}
+use Rattle.sv_check.specs.declared.sound.met.Met.{Met}
 use Rattle.sv_check.specs.InodeList.{used_inodes}
 use Rattle.sv_check.specs.Sound.{IsSound, node_of}
 use Rattle.sv_check.specs.Walk.{Reached, first_bad, is_data_block, is_new, met_of, nothing_met, reached, walk, with_met}

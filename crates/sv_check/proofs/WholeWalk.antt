@@ -10,7 +10,7 @@ use Rattle.sv_form.specs.declared.geometry.Geometry.{Geometry}
 use Rattle.sv_form.specs.Geometry.{inode_count}
 use Rattle.sv_form.specs.Image.{inode_of}
 use Rattle.sv_plain.specs.Front.{size_of}
-use Rattle.sv_check.specs.declared.met.Met.{Met}
+use Rattle.sv_check.specs.declared.sound.met.Met.{Met}
 use Rattle.sv_check.specs.InodeList.{is_free, used_inodes}
 use Rattle.sv_check.specs.PastSize.{is_past, has_tail, some_reached, past_size_flaw, tail_flaw}
 use Rattle.sv_check.specs.Progress.{met_at, Progress, met_by, step, after, GoesOn, StopsAt, Walks}

@@ -1,6 +1,6 @@
 -- The way along `..` from directory to directory.
 use Rattle.std.specs.Prelude.{◌==◌, ◌&&◌, ℕ, zero, suc, Bool, not, if◌then◌else◌}
-use Rattle.sv_check.specs.declared.standings.Standing.{Standing}
+use Rattle.sv_check.specs.declared.sound.standings.Standing.{Standing}
 
 -- where so many steps lead
 unfoldable pub climbed : (ℕ → ℕ) → ℕ → ℕ → ℕ

@@ -1,6 +1,6 @@
 -- A walk over the blocks of all inodes before its first step.
 use Rattle.std.specs.Prelude.{◌≡◌, ℕ, [], false, None, replicate}
-use Rattle.sv_check.specs.declared.whole_walk.BlockWalk.{BlockWalk}
+use Rattle.sv_check.specs.declared.sound.whole_walk.BlockWalk.{BlockWalk}
 
 -- no block of these has an owner, and nothing was found
 pub record IsFresh (blocks : ℕ) (w : BlockWalk) : Type 0 where

@@ -3,6 +3,7 @@ pub mod Blocks
 pub mod Chain
 pub mod ChainSteps
 pub mod Climbs
+pub mod Condition
 pub mod Directories
 pub mod EntrySteps
 pub mod Fault

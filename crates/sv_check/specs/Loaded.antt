@@ -7,8 +7,8 @@ use Rattle.sv_form.specs.Node.{is_dir}
 use Rattle.sv_form.specs.Number.{number16}
 use Rattle.sv_plain.specs.Front.{size_of}
 use Rattle.sv_plain.specs.Fs.{Fs, empty_fs, with_node, with_page_of}
-use Rattle.sv_check.specs.declared.loading.LoadFault.{LoadFault}
-use Rattle.sv_check.specs.declared.loading.LoadFault.TheVariants.{Fault, NoMemory}
+use Rattle.sv_check.specs.declared.loading.tree.LoadFault.{LoadFault}
+use Rattle.sv_check.specs.declared.loading.tree.LoadFault.TheVariants.{Fault, NoMemory}
 use Rattle.sv_check.specs.InodeList.{is_directory, is_free, links_of}
 use Rattle.sv_check.specs.Sound.{node_of, tree}
 use Rattle.sv_check.specs.Walk.{Reached}

@@ -5,8 +5,8 @@ use Rattle.std.specs.List.{range_with_len}
 use Rattle.sv_form.specs.declared.geometry.Geometry.{Geometry}
 use Rattle.sv_form.specs.Geometry.{inode_count}
 use Rattle.sv_form.specs.Superblock.{magic}
-use Rattle.sv_check.specs.declared.making.MakeFault.{MakeFault}
-use Rattle.sv_check.specs.declared.making.MakeFault.TheVariants.{Limits, Fault, NoMemory}
+use Rattle.sv_check.specs.declared.make.image.MakeFault.{MakeFault}
+use Rattle.sv_check.specs.declared.make.image.MakeFault.TheVariants.{Limits, Fault, NoMemory}
 use Rattle.sv_check.specs.Mkfs.{CanBeMade, free_cache, inode_cache, list_in, made_geometry}
 
 -- a number in 2, 3 and 4 bytes, its lowest byte first

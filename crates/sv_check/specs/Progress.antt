@@ -1,7 +1,7 @@
 -- How far the walk has come: what a step of it leaves, and what it means that it went on or stopped.
 use Rattle.std.specs.Prelude.{◌≡◌, ◌==◌, ◌||◌, ◌++◌, ℕ, Bool, true, false, not, List, [], ◌∷◌, map, Some, slice_index, if◌then◌else◌}
 use Rattle.sv_form.specs.declared.geometry.Geometry.{Geometry}
-use Rattle.sv_check.specs.declared.met.Met.{Met}
+use Rattle.sv_check.specs.declared.sound.met.Met.{Met}
 use Rattle.sv_check.specs.declared.pages.PageBlock.{PageBlock}
 use Rattle.sv_check.specs.declared.walk.Walk.{Walk}
 use Rattle.sv_check.specs.Pages.{page_at}

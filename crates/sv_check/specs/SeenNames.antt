@@ -6,7 +6,7 @@ use Rattle.std.specs.Cmp.Lexicographic.{slice_cmp}
 use Rattle.std.specs.BTreeSet.{contains}
 use Rattle.sv_form.specs.Entry.{filled}
 use Rattle.sv_plain.specs.Names.{same_bytes}
-use Rattle.sv_check.specs.declared.entries.SeenNames.{SeenNames}
+use Rattle.sv_check.specs.declared.sound.entries.SeenNames.{SeenNames}
 use Rattle.sv_check.specs.Directories.{name_in}
 
 -- the bytes that an entry has for its name are the name filled up

@@ -4,8 +4,8 @@ use Rattle.std.specs.Prelude.{if◌then◌else◌}
 use Rattle.std.specs.List.{enumerate_from}
 use Rattle.sv_form.specs.declared.geometry.Geometry.{Geometry}
 use Rattle.sv_plain.specs.Names.{same_bytes}
-use Rattle.sv_check.specs.declared.standings.Standing.{Standing}
-use Rattle.sv_check.specs.declared.standings.Standings.{Standings}
+use Rattle.sv_check.specs.declared.sound.standings.Standing.{Standing}
+use Rattle.sv_check.specs.declared.sound.standings.Standings.{Standings}
 use Rattle.sv_check.specs.Directories.{directories, dot, dots, entries, name_in, named_by}
 
 -- an entry: the directory in which it stands, its place there from 0, and its bytes

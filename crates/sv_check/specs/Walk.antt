@@ -12,7 +12,7 @@ use Rattle.sv_form.specs.PagePath as path
 use Rattle.sv_form.specs.PagePath.{block_numbers, slots}
 pub use Rattle.sv_form.specs.PagePath.{height_of}
 use Rattle.sv_plain.specs.Front.{address_of}
-use Rattle.sv_check.specs.declared.met.Met.{Met}
+use Rattle.sv_check.specs.declared.sound.met.Met.{Met}
 use Rattle.sv_check.specs.InodeList.{used_inodes}
 
 -- the numbers in the blocks of an image

@@ -1,12 +1,13 @@
 // Why a check gave no answer.
+use crate::Condition;
 use std::alloc::AllocError;
 use sv_dev::Failed;
 
 /// Why a check did not say that the image is sound.
 #[derive(Clone, Copy, Debug, PartialEq, Eq)]
 pub enum CheckFault {
-    /// The number of the first condition that fails, from 1, and the place where it fails.
-    Refused { number: u8, place: u32 },
+    /// The first condition that fails, and the place where it fails.
+    Refused { condition: Condition, place: u32 },
     /// The disk failed.
     Fault,
     NoMemory,

@@ -13,48 +13,27 @@
 #![tactic(auto)]
 
 mod blocks;
-mod chain;
-mod conditions;
+mod condition;
 mod counts;
-mod directories;
-mod dots;
-mod entries;
 mod fault;
-mod file;
-mod freeing;
-mod inode_cache;
 mod inodes;
-mod line_owners;
-mod links;
 mod loading;
-mod made_blocks;
-mod made_lists;
-mod making;
-mod met;
+mod make;
 mod pages;
-mod sizes;
-mod standings;
-mod walk;
-mod whole_walk;
-
-pub use blocks::{read_block, read_inode};
-pub use conditions::check;
-pub use counts::{free_count, used_count};
-pub use fault::CheckFault;
-pub use file::{file_size, read_pages};
-pub use freeing::made_chains_are_freed;
-pub use loading::{LoadFault, load};
-pub use made_lists::can_be_made;
-pub use making::{MakeFault, made_images_are_sound, made_images_have_their_sizes, mkfs};
-pub use pages::{PageBlock, next_block};
-pub use sizes::read_sizes;
-pub use sv_form::{LineRange, Mounted, Owners};
-
-#[cfg(test)]
-mod load_tests;
-#[cfg(test)]
-mod making_tests;
-#[cfg(test)]
-mod test_images;
+mod sound;
 #[cfg(test)]
 mod tests;
+mod walk;
+
+pub use blocks::{read_block, read_inode};
+pub use condition::Condition;
+pub use counts::{free_count, used_count};
+pub use fault::CheckFault;
+pub use loading::{LoadFault, file_size, load, read_pages};
+pub use make::{
+    MakeFault, can_be_made, made_chains_are_freed, made_images_are_sound,
+    made_images_have_their_sizes, mkfs,
+};
+pub use pages::{PageBlock, next_block};
+pub use sound::{check, read_sizes};
+pub use sv_form::{LineRange, Mounted, Owners};

@@ -14,7 +14,7 @@ use Rattle.sv_store.specs.Held.{Origin, nothing_lent}
 use Rattle.sv_inode.specs.StandsFor.{StandsFor}
 use Rattle.sv_inode.specs.Truncate.{HoldsOnly}
 use Rattle.sv_turn.specs.Turning.{total}
-use Rattle.sv_plain.specs.declared.entry.Entry.{Entry}
+use Rattle.sv_plain.specs.declared.history.entry.Entry.{Entry}
 use Rattle.sv_plain.specs.Fs.{Fs}
 use Rattle.sv_plain.specs.Step.{Step}
 use Rattle.sv_plain.specs.History.{own}

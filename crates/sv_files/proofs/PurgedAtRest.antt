@@ -2,8 +2,8 @@
 use Rattle.std.proofs.Common.{◌≡◌, ◌≢◌, ◌≤◌, ◌==◌, ◌∙◌, ℕ, Bool, not, true, false, Option, Some, None, ap, sym, refl, cond, arith}
 use Rattle.std.specs.FinMap as map
 use Rattle.sv_form.specs.Node.{Node}
-use Rattle.sv_plain.specs.declared.op.Op.TheVariants.{Purge}
-use Rattle.sv_plain.specs.declared.reply.Reply.TheVariants.{Done}
+use Rattle.sv_plain.specs.declared.history.op.Op.TheVariants.{Purge}
+use Rattle.sv_plain.specs.declared.history.reply.Reply.TheVariants.{Done}
 use Rattle.sv_plain.specs.Fs.{Fs}
 use Rattle.sv_plain.specs.Names.{is_idle}
 use Rattle.sv_plain.specs.Step.{Step}

@@ -11,7 +11,7 @@ use Rattle.sv_store.specs.Held.{Origin}
 use Rattle.sv_store.specs.declared.refusal.Refusal.{Refusal}
 use Rattle.sv_store.proofs.Holding.{eqb_same}
 use Rattle.sv_inode.specs.StandsFor.{IsDescribed}
-use Rattle.sv_plain.specs.declared.op.Op.TheVariants.{Stat}
+use Rattle.sv_plain.specs.declared.history.op.Op.TheVariants.{Stat}
 use Rattle.sv_plain.specs.Fs.{Fs}
 use Rattle.sv_plain.specs.Names.{references_of, same_kind, some_and}
 use Rattle.sv_plain.specs.Step.{Step}

@@ -7,7 +7,7 @@ use Rattle.sv_form.specs.Node.{Node}
 use Rattle.sv_form.specs.declared.inode.DiskInode.TheVariants.{Used}
 use Rattle.sv_form.specs.declared.inode.InodeBody.{InodeBody}
 use Rattle.sv_store.specs.Held.{Held, Origin, nothing_lent}
-use Rattle.sv_plain.specs.declared.entry.Entry.{Entry}
+use Rattle.sv_plain.specs.declared.history.entry.Entry.{Entry}
 use Rattle.sv_plain.specs.Fs.{Fs}
 use Rattle.sv_plain.specs.Names.{references_of}
 use Rattle.sv_plain.specs.Step.{Step}

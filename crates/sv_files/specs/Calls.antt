@@ -6,11 +6,11 @@ use Rattle.sv_turn.specs.Turning.{total}
 use Rattle.sv_plain.specs.Fs.{Fs}
 use Rattle.sv_plain.specs.History.{IsLegal, Leads, own}
 use Rattle.sv_plain.specs.Whole.{IsWhole}
-use Rattle.sv_plain.specs.declared.entry.Entry.{Entry}
-use Rattle.sv_plain.specs.declared.op.Op.{Op}
-use Rattle.sv_plain.specs.declared.op.Op.TheVariants as op
-use Rattle.sv_plain.specs.declared.reply.Reply.{Reply}
-use Rattle.sv_plain.specs.declared.reply.Reply.TheVariants as reply
+use Rattle.sv_plain.specs.declared.history.entry.Entry.{Entry}
+use Rattle.sv_plain.specs.declared.history.op.Op.{Op}
+use Rattle.sv_plain.specs.declared.history.op.Op.TheVariants as op
+use Rattle.sv_plain.specs.declared.history.reply.Reply.{Reply}
+use Rattle.sv_plain.specs.declared.history.reply.Reply.TheVariants as reply
 use Rattle.sv_files.specs.View.{View, Mount, Proc, Each, first_fs, of_one, times}
 use Rattle.sv_files.specs.FileRule.{faulty, is_faulty}
 use Rattle.sv_files.specs.Adding.{answered, failed}

@@ -5,8 +5,8 @@ use Rattle.std.specs.FinMap as map
 use Rattle.sv_form.specs.Geometry.{inode_count}
 use Rattle.sv_form.specs.Image.{geometry_of}
 use Rattle.sv_form.specs.Node.{Node}
-use Rattle.sv_plain.specs.declared.op.Op.TheVariants.{Purge}
-use Rattle.sv_plain.specs.declared.reply.Reply.TheVariants.{Done}
+use Rattle.sv_plain.specs.declared.history.op.Op.TheVariants.{Purge}
+use Rattle.sv_plain.specs.declared.history.reply.Reply.TheVariants.{Done}
 use Rattle.sv_plain.specs.Fs.{Fs}
 use Rattle.sv_plain.specs.Step.{Step}
 use Rattle.sv_plain.specs.Whole.{IsWhole}

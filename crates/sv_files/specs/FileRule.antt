@@ -16,11 +16,11 @@ use Rattle.sv_turn.specs.Turning.{total}
 use Rattle.sv_store.specs.Held.{Origin, nothing_lent}
 use Rattle.sv_inode.specs.StandsFor.{StandsFor}
 use Rattle.sv_inode.specs.Truncate.{HoldsOnly}
-use Rattle.sv_plain.specs.declared.entry.Entry.{Entry}
-use Rattle.sv_plain.specs.declared.op.Op.{Op}
-use Rattle.sv_plain.specs.declared.op.Op.TheVariants as op
-use Rattle.sv_plain.specs.declared.reply.Reply.{Reply}
-use Rattle.sv_plain.specs.declared.reply.Reply.TheVariants as reply
+use Rattle.sv_plain.specs.declared.history.entry.Entry.{Entry}
+use Rattle.sv_plain.specs.declared.history.op.Op.{Op}
+use Rattle.sv_plain.specs.declared.history.op.Op.TheVariants as op
+use Rattle.sv_plain.specs.declared.history.reply.Reply.{Reply}
+use Rattle.sv_plain.specs.declared.history.reply.Reply.TheVariants as reply
 use Rattle.sv_plain.specs.Fs.{Fs}
 use Rattle.sv_plain.specs.History.{Leads, own}
 use Rattle.sv_plain.specs.Names.{references_of}

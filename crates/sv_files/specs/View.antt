@@ -3,7 +3,7 @@ use Rattle.std.specs.Prelude.{◌==◌, ◌&&◌, ◌++◌, ℕ, zero, suc, Bool
 use Rattle.std.specs.Prelude.{if◌then◌else◌}
 use Rattle.sv_turn.specs.Turning.{total}
 use Rattle.sv_store.specs.Held.{Held, Lent, Origin, nothing_lent}
-use Rattle.sv_plain.specs.declared.entry.Entry.{Entry}
+use Rattle.sv_plain.specs.declared.history.entry.Entry.{Entry}
 use Rattle.sv_plain.specs.Fs.{Fs, begun, empty_fs}
 use Rattle.sv_plain.specs.Totals.{one_if}
 use Rattle.sv_files.specs.declared.in_core.InCore.{InCore}

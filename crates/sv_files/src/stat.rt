@@ -1,7 +1,7 @@
 // The call Stat.
 ghost use Rattle.std.specs.Prelude.{◌≡◌, IfOk, OnErr};
 ghost use Rattle.sv_turn.specs.Passes.{pass_view, IsOut, IsPassOf, IsSamePass, turn_events};
-ghost use Rattle.sv_plain.specs.declared.op.Op.TheVariants.{Stat};
+ghost use Rattle.sv_plain.specs.declared.history.op.Op.TheVariants.{Stat};
 ghost use Rattle.sv_files.specs.Calls.{Adds, AddsNothing, CanStat, IsViewOf, status_of};
 
 use crate::NoMemory;

@@ -3,11 +3,11 @@ use Rattle.std.proofs.Common.{◌≡◌, ◌≤◌, ◌<◌, ◌^◌, ◌==◌, 
 use Rattle.std.specs.Cmp.Lexicographic.{pointwise}
 use Rattle.std.specs.Fmt.{decimal}
 use Rattle.std.proofs.lemmas.Bool.{and_parts, false≢true, le-leb, leb-true}
-use Rattle.sv_plain.specs.declared.entry.Entry.{Entry}
-use Rattle.sv_plain.specs.declared.op.Op.{Op}
-use Rattle.sv_plain.specs.declared.op.Op.TheVariants as ops
-use Rattle.sv_plain.specs.declared.reply.Reply.{Reply}
-use Rattle.sv_journal.specs.Allowed.{AreSizes, IsAllowed, is_purge, is_reply_of}
+use Rattle.sv_plain.specs.declared.history.entry.Entry.{Entry}
+use Rattle.sv_plain.specs.declared.history.op.Op.{Op}
+use Rattle.sv_plain.specs.declared.history.op.Op.TheVariants as ops
+use Rattle.sv_plain.specs.declared.history.reply.Reply.{Reply}
+use Rattle.sv_journal.specs.Allowed.{AreSizes, IsJournalEntry, is_purge, is_reply_of}
 use Rattle.sv_journal.specs.Cut.{first_word, next_line, this_word}
 use Rattle.sv_journal.specs.Fields.{first_number, number}
 use Rattle.sv_journal.specs.Fits.{Fits, OpFits, ReplyFits}
@@ -116,13 +116,13 @@ asked_back ops.Forgo process h = ap not (sym h)
 asked_back ops.Sync process h = ap not (sym h)
 asked_back ops.Purge process h = sym h
 
-allowed : (processes : ℕ) (e : Entry) → is_allowed processes e ≡ true → IsAllowed processes e
+allowed : (processes : ℕ) (e : Entry) → is_allowed processes e ≡ true → IsJournalEntry processes e
 allowed processes e h =
     let parts = and_parts (nat_le e.process processes && is_asked_by e.op e.process) (is_reply_of e.op e.reply) h in
     let who = and_parts (nat_le e.process processes) (is_asked_by e.op e.process) parts.0 in
     record { process = leb-true e.process processes who.0; system = asked e.op e.process who.1; reply = parts.1 }
 
-allowed_back : (processes : ℕ) (e : Entry) → IsAllowed processes e → is_allowed processes e ≡ true
+allowed_back : (processes : ℕ) (e : Entry) → IsJournalEntry processes e → is_allowed processes e ≡ true
 allowed_back processes e h =
     and_true (nat_le e.process processes && is_asked_by e.op e.process) (is_reply_of e.op e.reply)
     (and_true (nat_le e.process processes) (is_asked_by e.op e.process) (le-leb e.process processes h.process) (asked_back e.op e.process h.system)) h.reply
@@ -130,7 +130,7 @@ allowed_back processes e h =
 -- an entry that may stand in a journal, and its line
 pub record IsEntrySaid (processes : ℕ) (t : List ℕ) (r : Entry × List ℕ) : Type 0 where
   pub said : IsSaid t r
-  pub may : IsAllowed processes r.0
+  pub may : IsJournalEntry processes r.0
 
 pub entry-cut : (processes : ℕ) (t : List ℕ) → IfSome (entry processes t) (IsEntrySaid processes t)
 entry-cut processes t = step (said t) _ (IsSaid t) (IsEntrySaid processes t) (said-cut t) (λ r is. by r is (is_allowed processes r.0) refl)
@@ -139,7 +139,7 @@ entry-cut processes t = step (said t) _ (IsSaid t) (IsEntrySaid processes t) (sa
     by r is true h = record { said = is; may = allowed processes r.0 h }
     by r is false h = tt
 
-pub entry-back : (processes : ℕ) (e : Entry) (more : List ℕ) → Fits e → IsAllowed processes e → entry processes (entry_line e ++ more) ≡ Some (e, more)
+pub entry-back : (processes : ℕ) (e : Entry) (more : List ℕ) → Fits e → IsJournalEntry processes e → entry processes (entry_line e ++ more) ≡ Some (e, more)
 entry-back processes e more fits may =
     ap (λ (m : Option (Entry × List ℕ)). m >>= λ r. cond (is_allowed processes r.0) (Some r) None) (said-back e more fits)
     ∙ ap (λ (b : Bool). cond b (Some (e, more)) None) (allowed_back processes e may)

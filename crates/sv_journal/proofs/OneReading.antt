@@ -3,13 +3,13 @@ use Rattle.std.proofs.Common.{◌≡◌, ◌<◌, ◌++◌, ◌∙◌, ℕ, List
 use Rattle.std.specs.List.{flat_map}
 use Rattle.std.proofs.lemmas.List.{length-append}
 use Rattle.std.proofs.lemmas.List.Elements.{All-head, All-tail}
-use Rattle.sv_plain.specs.declared.entry.Entry.{Entry}
+use Rattle.sv_plain.specs.declared.history.entry.Entry.{Entry}
 use Rattle.sv_journal.specs.declared.journal_fault.JournalFault.TheVariants as faults
-use Rattle.sv_journal.specs.Allowed.{AreSizes, IsAllowed}
+use Rattle.sv_journal.specs.Allowed.{AreSizes, IsJournalEntry}
 use Rattle.sv_journal.specs.Fits.{Fits}
 use Rattle.sv_journal.specs.Grammar.{entry, head}
 use Rattle.sv_journal.specs.OneReading.{IsSameJournal}
-use Rattle.sv_journal.specs.Reading.{HasNoEntry, IsJournalOf, IsRefused, IsRefusedFirst, IsRefusedLater, IsTextOf}
+use Rattle.sv_journal.specs.Reading.{HasNoEntry, IsJournalOf, IsNoJournal, IsRefusedFirst, IsRefusedLater, IsTextOf}
 use Rattle.sv_journal.specs.Spelling.{entry_line, head_line, journal_text}
 use Rattle.sv_journal.proofs.LineReads.{entry-back, head-back}
 use Rattle.sv_journal.proofs.ReadSteps.{line_some}
@@ -30,7 +30,7 @@ same_head p t q u a b hp hq is =
 abbrev Said : Type 0
 Said = Entry × List ℕ
 
-same_entry : (p : ℕ) (x y : Entry) (a b : List ℕ) → Fits x → IsAllowed p x → Fits y → IsAllowed p y → entry_line x ++ a ≡ entry_line y ++ b → (x ≡ y) × (a ≡ b)
+same_entry : (p : ℕ) (x y : Entry) (a b : List ℕ) → Fits x → IsJournalEntry p x → Fits y → IsJournalEntry p y → entry_line x ++ a ≡ entry_line y ++ b → (x ≡ y) × (a ≡ b)
 same_entry p x y a b fx ax fy ay is =
     let both = sym (entry-back p x a fx ax) ∙ ap (entry p) is ∙ entry-back p y b fy ay in
     let r : ◌≡◌ {A = Said} (x, a) (y, b) = ap (λ (o : Option Said). unwrap_or o (x, a)) both in
@@ -44,11 +44,11 @@ no_bytes x xs a none = omega (arith, line_some x, ap (λ (t : List ℕ). length 
 
 -- the lines of entries that may stand in a journal of so many processes
 pub record AreLines (p : ℕ) (xs : List Entry) : Type 0 where
-  pub allowed : All (IsAllowed p) xs
+  pub allowed : All (IsJournalEntry p) xs
   pub fits : All Fits xs
 
 tail_of : (p : ℕ) (x : Entry) (xs : List Entry) → AreLines p (x ∷ xs) → AreLines p xs
-tail_of p x xs h = record { allowed = All-tail (IsAllowed p) x xs h.allowed; fits = All-tail Fits x xs h.fits }
+tail_of p x xs h = record { allowed = All-tail (IsJournalEntry p) x xs h.allowed; fits = All-tail Fits x xs h.fits }
 
 -- the first of some lines, and what follows it
 first_line_of : (x : Entry) (xs : List Entry) (a : List ℕ) → flat_map entry_line (x ∷ xs) ++ a ≡ entry_line x ++ (flat_map entry_line xs ++ a)
@@ -56,13 +56,13 @@ first_line_of x xs a = ap (λ (t : List ℕ). t ++ a) (lines_more x xs) ∙ appe
 
 begins_with_none : (p : ℕ) (x : Entry) (xs : List Entry) (a rest : List ℕ) → AreLines p (x ∷ xs) → HasNoEntry p rest → rest ≡ flat_map entry_line (x ∷ xs) ++ a → ⊥
 begins_with_none p x xs a rest h none is =
-    none x (flat_map entry_line xs ++ a) (All-head Fits x xs h.fits) (All-head (IsAllowed p) x xs h.allowed) (is ∙ first_line_of x xs a)
+    none x (flat_map entry_line xs ++ a) (All-head Fits x xs h.fits) (All-head (IsJournalEntry p) x xs h.allowed) (is ∙ first_line_of x xs a)
 
 -- equal lines have one first line, and go on equally
 onward : (p : ℕ) (x y : Entry) (xs ys : List Entry) (a b : List ℕ) → AreLines p (x ∷ xs) → AreLines p (y ∷ ys) → flat_map entry_line (x ∷ xs) ++ a ≡ flat_map entry_line (y ∷ ys) ++ b
     → (x ≡ y) × (flat_map entry_line xs ++ a ≡ flat_map entry_line ys ++ b)
 onward p x y xs ys a b hx hy is =
-    same_entry p x y (flat_map entry_line xs ++ a) (flat_map entry_line ys ++ b) (All-head Fits x xs hx.fits) (All-head (IsAllowed p) x xs hx.allowed) (All-head Fits y ys hy.fits) (All-head (IsAllowed p) y ys hy.allowed)
+    same_entry p x y (flat_map entry_line xs ++ a) (flat_map entry_line ys ++ b) (All-head Fits x xs hx.fits) (All-head (IsJournalEntry p) x xs hx.allowed) (All-head Fits y ys hy.fits) (All-head (IsJournalEntry p) y ys hy.allowed)
     (sym (first_line_of x xs a) ∙ is ∙ first_line_of y ys b)
 
 same_entries : (p : ℕ) (xs ys : List Entry) → AreLines p xs → AreLines p ys → flat_map entry_line xs ++ [] ≡ flat_map entry_line ys ++ [] → xs ≡ ys
@@ -127,7 +127,7 @@ read_one_way text p t q u xs ys h k =
 not_first : (text : List ℕ) (p t n : ℕ) (xs : List Entry) (rest : List ℕ) → IsParted text p t xs rest → IsRefusedFirst text n → ⊥
 not_first text p t n xs rest h first = first.none p t (flat_map entry_line xs ++ rest) h.sizes h.cut
 
-pub read_or_refused : (text : List ℕ) (p t n : ℕ) (xs : List Entry) → IsJournalOf text p t xs → IsRefused text (faults.Line n) → ⊥
+pub read_or_refused : (text : List ℕ) (p t n : ℕ) (xs : List Entry) → IsJournalOf text p t xs → IsNoJournal text (faults.Line n) → ⊥
 read_or_refused text p t n xs h refused =
     elim refused [
       | inl long ↦ omega (arith, long.long, h.most)
@@ -149,7 +149,7 @@ both_later text m n a b =
     let as_many = same_place a.processes a.entries b.entries a.rest b.rest one.lines (subst (λ (k : ℕ). AreLines k b.entries) (sym same.0) other.lines) a.none (subst (λ (k : ℕ). HasNoEntry k b.rest) (sym same.0) b.none) same.2 in
     omega (arith, a.place, b.place)
 
-pub refused_one_way : (text : List ℕ) (m n : ℕ) → IsRefused text (faults.Line m) → IsRefused text (faults.Line n) → m ≡ n
+pub refused_one_way : (text : List ℕ) (m n : ℕ) → IsNoJournal text (faults.Line m) → IsNoJournal text (faults.Line n) → m ≡ n
 refused_one_way text m n (inl a) (inl b) = a.place ∙ sym b.place
 refused_one_way text m n (inl a) (inr (inl b)) = absurd (omega (arith, a.long, b.most))
 refused_one_way text m n (inl a) (inr (inr b)) = absurd (omega (arith, a.long, b.most))

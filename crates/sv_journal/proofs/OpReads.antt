@@ -7,11 +7,11 @@ use Rattle.hex.specs.Hex.{encode_lower}
 use Rattle.sv_form.specs.Name.{IsName}
 use Rattle.sv_form.specs.Number.{AreBytes}
 use Rattle.sv_form.specs.declared.kind.Kind.{Kind}
-use Rattle.sv_plain.specs.declared.mode.Mode.{Mode}
-use Rattle.sv_plain.specs.declared.need.Need.{Need}
-use Rattle.sv_plain.specs.declared.need.Need.TheVariants as needs
-use Rattle.sv_plain.specs.declared.op.Op.{Op}
-use Rattle.sv_plain.specs.declared.op.Op.TheVariants as ops
+use Rattle.sv_plain.specs.declared.fs.mode.Mode.{Mode}
+use Rattle.sv_plain.specs.declared.history.need.Need.{Need}
+use Rattle.sv_plain.specs.declared.history.need.Need.TheVariants as needs
+use Rattle.sv_plain.specs.declared.history.op.Op.{Op}
+use Rattle.sv_plain.specs.declared.history.op.Op.TheVariants as ops
 use Rattle.sv_journal.specs.declared.need_name.NeedName.{NeedName}
 use Rattle.sv_journal.specs.declared.need_name.NeedName.TheVariants as need_names
 use Rattle.sv_journal.specs.declared.op_name.OpName.{OpName}

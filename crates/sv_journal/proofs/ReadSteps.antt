@@ -3,13 +3,13 @@ use Rattle.std.proofs.Common.{◌≡◌, ◌≤◌, ◌<◌, ◌+◌, ◌++◌, 
 use Rattle.std.specs.Fmt.{decimal}
 use Rattle.std.proofs.lemmas.List.{flat_map_more, length-append}
 use Rattle.std.proofs.lemmas.List.Elements.{All-nil, All-push}
-use Rattle.sv_plain.specs.declared.entry.Entry.{Entry}
+use Rattle.sv_plain.specs.declared.history.entry.Entry.{Entry}
 use Rattle.sv_journal.specs.declared.journal_fault.JournalFault.{JournalFault}
 use Rattle.sv_journal.specs.declared.journal_fault.JournalFault.TheVariants as faults
-use Rattle.sv_journal.specs.Allowed.{IsAllowed}
+use Rattle.sv_journal.specs.Allowed.{IsJournalEntry}
 use Rattle.sv_journal.specs.Fits.{Fits}
 use Rattle.sv_journal.specs.Grammar.{entry, head}
-use Rattle.sv_journal.specs.Reading.{IsAt, IsJournalOf, IsRefused, StopsAt}
+use Rattle.sv_journal.specs.Reading.{IsAt, IsJournalOf, IsNoJournal, StopsAt}
 use Rattle.sv_journal.specs.Spelling.{entry_line, head_line, journal_text, op_text, reply_text}
 use Rattle.sv_journal.proofs.LineReads.{IsEntrySaid, IsHead, entry-cut, head-cut, no_entry, no_head}
 
@@ -28,7 +28,7 @@ at_first text left processes table entries is none =
     let spelled = h.spelled in
     subst (λ (es : List Entry). IsAt text left processes table es) (sym none) (record {
       front = head_line processes table;
-      before = record { sizes = h.sizes; allowed = All-nil (IsAllowed processes); fits = All-nil Fits; spelled = head_alone processes table };
+      before = record { sizes = h.sizes; allowed = All-nil (IsJournalEntry processes); fits = All-nil Fits; spelled = head_alone processes table };
       cut = spelled;
       size = omega (arith, ap length spelled, length-append (head_line processes table) left);
     })
@@ -50,7 +50,7 @@ at_next text rest left processes table entries e at is =
       front = at.front ++ entry_line e;
       before = record {
         sizes = at.before.sizes;
-        allowed = All-push (IsAllowed processes) entries e at.before.allowed h.may;
+        allowed = All-push (IsJournalEntry processes) entries e at.before.allowed h.may;
         fits = All-push Fits entries e at.before.fits h.said.fits;
         spelled = ap (λ (x : List ℕ). x ++ entry_line e) at.before.spelled ∙ line_more processes table entries e;
       };
@@ -65,12 +65,12 @@ shorter rest left processes e is =
 
 -- ---- where it stops
 
-pub stops_first : (text : List ℕ) (fault : JournalFault) → length text ≤ 536870912 → StopsAt 1 (head text) fault → IsRefused text fault
+pub stops_first : (text : List ℕ) (fault : JournalFault) → length text ≤ 536870912 → StopsAt 1 (head text) fault → IsNoJournal text fault
 stops_first text (faults.Line line) most h = inr (inl (record { place = h.0; most = most; none = no_head text h.1 }))
 stops_first text faults.NoMemory most h = tt
 
 pub stops_later : (text rest : List ℕ) (processes table line : ℕ) (entries : List Entry) (fault : JournalFault) → length text ≤ 536870912 → IsAt text rest processes table entries → 0 < length rest
-    → line ≡ length entries + 2 → StopsAt line (entry processes rest) fault → IsRefused text fault
+    → line ≡ length entries + 2 → StopsAt line (entry processes rest) fault → IsNoJournal text fault
 stops_later text rest processes table line entries (faults.Line at_line) most at more place h =
     inr (inr (record {
       processes = processes;
@@ -100,6 +100,6 @@ all_read text [] processes table entries most at end = record {
 all_read text (b ∷ bs) processes table entries most at end = absurd (omega arith)
 
 -- a refusal that is passed on
-pub refused_so : {T : Type 0} (text : List ℕ) (r : Result T JournalFault) (fault : JournalFault) → IsErrAnd r (λ x. x ≡ fault) → IsRefused text fault → IfErr r (IsRefused text)
+pub refused_so : {T : Type 0} (text : List ℕ) (r : Result T JournalFault) (fault : JournalFault) → IsErrAnd r (λ x. x ≡ fault) → IsNoJournal text fault → IfErr r (IsNoJournal text)
 refused_so text (Ok x) fault is h = tt
-refused_so text (Err x) fault is h = subst (IsRefused text) (sym is) h
+refused_so text (Err x) fault is h = subst (IsNoJournal text) (sym is) h

@@ -3,8 +3,8 @@ use Rattle.std.proofs.Common.{◌≡◌, ◌++◌, ◌∙◌, ℕ, List, ◌∷�
 use Rattle.std.specs.Fmt.{decimal}
 use Rattle.sv_form.specs.Number.{AreBytes}
 use Rattle.sv_form.specs.declared.kind.Kind.{Kind}
-use Rattle.sv_plain.specs.declared.reply.Reply.{Reply}
-use Rattle.sv_plain.specs.declared.reply.Reply.TheVariants as replies
+use Rattle.sv_plain.specs.declared.history.reply.Reply.{Reply}
+use Rattle.sv_plain.specs.declared.history.reply.Reply.TheVariants as replies
 use Rattle.sv_journal.specs.declared.reply_name.ReplyName.{ReplyName}
 use Rattle.sv_journal.specs.declared.reply_name.ReplyName.TheVariants as reply_names
 use Rattle.sv_journal.specs.Fields.{bytes, field, made, number}

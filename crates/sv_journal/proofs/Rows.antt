@@ -3,12 +3,12 @@ use Rattle.std.proofs.Common.{◌≡◌, ℕ, pos, negsuc, List, [], ◌∷◌, 
 use Rattle.std.specs.Fmt.{digits}
 use Rattle.hex.specs.Hex.{encode_with}
 use Rattle.sv_form.specs.declared.kind.Kind.TheVariants.{File, Dir}
-use Rattle.sv_plain.specs.declared.mode.Mode.TheVariants.{RW}
-use Rattle.sv_plain.specs.declared.need.Need.TheVariants as need
-use Rattle.sv_plain.specs.declared.op.Op.{Op}
-use Rattle.sv_plain.specs.declared.op.Op.TheVariants.{Look, Drop, Create, OpenFile, Read, Write, Seek, Stat, Promise, Forgo, Purge}
-use Rattle.sv_plain.specs.declared.reply.Reply.{Reply}
-use Rattle.sv_plain.specs.declared.reply.Reply.TheVariants.{Found, Kept, Made, Opened, Got, Wrote, At, Bad, Done, Status, Granted, LateMemory}
+use Rattle.sv_plain.specs.declared.fs.mode.Mode.TheVariants.{RW}
+use Rattle.sv_plain.specs.declared.history.need.Need.TheVariants as need
+use Rattle.sv_plain.specs.declared.history.op.Op.{Op}
+use Rattle.sv_plain.specs.declared.history.op.Op.TheVariants.{Look, Drop, Create, OpenFile, Read, Write, Seek, Stat, Promise, Forgo, Purge}
+use Rattle.sv_plain.specs.declared.history.reply.Reply.{Reply}
+use Rattle.sv_plain.specs.declared.history.reply.Reply.TheVariants.{Found, Kept, Made, Opened, Got, Wrote, At, Bad, Done, Status, Granted, LateMemory}
 use Rattle.sv_journal.specs.Allowed.{is_reply_of}
 use Rattle.sv_journal.specs.Spelling.{entry_line, head_line, journal_text}
 

@@ -10,8 +10,8 @@ use Rattle.std.proofs.lemmas.Str.Parse.{digit_at}
 use Rattle.std.proofs.Math.Dec.{eqb-suc-zero}
 use Rattle.sv_form.specs.declared.kind.Kind.{Kind}
 use Rattle.sv_form.specs.declared.kind.Kind.TheVariants as kinds
-use Rattle.sv_plain.specs.declared.mode.Mode.{Mode}
-use Rattle.sv_plain.specs.declared.mode.Mode.TheVariants as modes
+use Rattle.sv_plain.specs.declared.fs.mode.Mode.{Mode}
+use Rattle.sv_plain.specs.declared.fs.mode.Mode.TheVariants as modes
 use Rattle.sv_journal.specs.Fits.{IsByte, IsLong, IsShort}
 use Rattle.sv_journal.specs.Outcome.{◌>>=◌}
 use Rattle.sv_journal.specs.Spelling.{kind_text, mode_text, octal}

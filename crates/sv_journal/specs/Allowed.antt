@@ -1,15 +1,15 @@
 -- What a journal may hold: which replies stand behind which op, which process asks for what, and how large its numbers
 -- are. Whether the replies are those that the file system gives is another matter, and not said here.
 use Rattle.std.specs.Prelude.{◌≡◌, ◌≤◌, ◌==◌, ℕ, Bool, true, false}
-use Rattle.sv_plain.specs.declared.entry.Entry.{Entry}
-use Rattle.sv_plain.specs.declared.op.Op.{Op}
-use Rattle.sv_plain.specs.declared.op.Op.TheVariants.{Look, Drop, Create, AddLink, Enter, SubLink, Unlink, Rmdir, OpenFile, CloseFile}
-use Rattle.sv_plain.specs.declared.op.Op.TheVariants.{DupFile, Read, Write, Seek, Trunc, Stat, Promise, Forgo, Sync, Purge}
-use Rattle.sv_plain.specs.declared.reply.Reply.{Reply}
-use Rattle.sv_plain.specs.declared.reply.Reply.TheVariants.{Found, NotFound, NotDir, Gone, Full, Fault, Kept, Freed, Late, LateMemory, Made}
-use Rattle.sv_plain.specs.declared.reply.Reply.TheVariants.{ManyLinks, NoInode, Raised, IsDir, Entered, Exists, Lowered, Removed, Plain}
-use Rattle.sv_plain.specs.declared.reply.Reply.TheVariants.{NotEmpty, Opened, Dupped, Got, Wrote, FaultAfter, At, Bad, Done, Status}
-use Rattle.sv_plain.specs.declared.reply.Reply.TheVariants.{Granted, NoSpace, TooBig}
+use Rattle.sv_plain.specs.declared.history.entry.Entry.{Entry}
+use Rattle.sv_plain.specs.declared.history.op.Op.{Op}
+use Rattle.sv_plain.specs.declared.history.op.Op.TheVariants.{Look, Drop, Create, AddLink, Enter, SubLink, Unlink, Rmdir, OpenFile, CloseFile}
+use Rattle.sv_plain.specs.declared.history.op.Op.TheVariants.{DupFile, Read, Write, Seek, Trunc, Stat, Promise, Forgo, Sync, Purge}
+use Rattle.sv_plain.specs.declared.history.reply.Reply.{Reply}
+use Rattle.sv_plain.specs.declared.history.reply.Reply.TheVariants.{Found, NotFound, NotDir, Gone, Full, Fault, Kept, Freed, Late, LateMemory, Made}
+use Rattle.sv_plain.specs.declared.history.reply.Reply.TheVariants.{ManyLinks, NoInode, Raised, IsDir, Entered, Exists, Lowered, Removed, Plain}
+use Rattle.sv_plain.specs.declared.history.reply.Reply.TheVariants.{NotEmpty, Opened, Dupped, Got, Wrote, FaultAfter, At, Bad, Done, Status}
+use Rattle.sv_plain.specs.declared.history.reply.Reply.TheVariants.{Granted, NoSpace, TooBig}
 
 -- ---- which replies an op has
 
@@ -169,7 +169,7 @@ is_purge Purge = true
 is_purge _ = false
 
 -- an entry of one of the processes 1 to `processes`, or a purge of the system
-pub record IsAllowed (processes : ℕ) (e : Entry) : Type 0 where
+pub record IsJournalEntry (processes : ℕ) (e : Entry) : Type 0 where
   pub process : e.process ≤ processes
   pub system : is_purge e.op ≡ (e.process == 0)
   pub reply : is_reply_of e.op e.reply ≡ true

@@ -1,7 +1,7 @@
 -- What a line holds at its words: each is read behind a space, and what follows it is left.
 use Rattle.std.specs.Prelude.{ℕ, ℤ, List, Option, Some}
 use Rattle.sv_form.specs.declared.kind.Kind.{Kind}
-use Rattle.sv_plain.specs.declared.mode.Mode.{Mode}
+use Rattle.sv_plain.specs.declared.fs.mode.Mode.{Mode}
 use Rattle.sv_journal.specs.Cut.{first_word, next_word}
 use Rattle.sv_journal.specs.Outcome.{◌>>=◌}
 use Rattle.sv_journal.specs.Word.{bytes_of, kind_of, mode_of, name_of, number_of, offset_of}

@@ -1,13 +1,13 @@
 -- What a line says, word by word: each function gives what stands at the front of a text, and what is left behind it.
 use Rattle.std.specs.Prelude.{◌==◌, nat_le, ◌&&◌, not, if◌then◌else◌, ℕ, List, Bool, codes, nat_eq, Option, Some, None}
 use Rattle.std.specs.Cmp.Lexicographic.{pointwise}
-use Rattle.sv_plain.specs.declared.entry.Entry.{Entry}
-use Rattle.sv_plain.specs.declared.need.Need.{Need}
-use Rattle.sv_plain.specs.declared.need.Need.TheVariants as needs
-use Rattle.sv_plain.specs.declared.op.Op.{Op}
-use Rattle.sv_plain.specs.declared.op.Op.TheVariants as ops
-use Rattle.sv_plain.specs.declared.reply.Reply.{Reply}
-use Rattle.sv_plain.specs.declared.reply.Reply.TheVariants as replies
+use Rattle.sv_plain.specs.declared.history.entry.Entry.{Entry}
+use Rattle.sv_plain.specs.declared.history.need.Need.{Need}
+use Rattle.sv_plain.specs.declared.history.need.Need.TheVariants as needs
+use Rattle.sv_plain.specs.declared.history.op.Op.{Op}
+use Rattle.sv_plain.specs.declared.history.op.Op.TheVariants as ops
+use Rattle.sv_plain.specs.declared.history.reply.Reply.{Reply}
+use Rattle.sv_plain.specs.declared.history.reply.Reply.TheVariants as replies
 use Rattle.sv_journal.specs.declared.need_name.NeedName.{NeedName}
 use Rattle.sv_journal.specs.declared.need_name.NeedName.TheVariants as need_names
 use Rattle.sv_journal.specs.declared.op_name.OpName.{OpName}

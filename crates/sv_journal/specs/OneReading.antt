@@ -1,8 +1,8 @@
 -- That a text is read in one way.
 use Rattle.std.specs.Prelude.{◌≡◌, ℕ, List}
-use Rattle.sv_plain.specs.declared.entry.Entry.{Entry}
+use Rattle.sv_plain.specs.declared.history.entry.Entry.{Entry}
 use Rattle.sv_journal.specs.declared.journal_fault.JournalFault.TheVariants as faults
-use Rattle.sv_journal.specs.Reading.{IsJournalOf, IsRefused}
+use Rattle.sv_journal.specs.Reading.{IsJournalOf, IsNoJournal}
 
 -- two journals of one text are the same
 pub record IsSameJournal (processes table : ℕ) (entries : List Entry) (others_processes others_table : ℕ) (others : List Entry) : Type
@@ -17,8 +17,8 @@ IsReadOneWay = (text : List ℕ) (p t q u : ℕ) (xs ys : List Entry) → IsJour
 
 -- a text is refused at one line
 abbrev pub IsRefusedOneWay : Type 0
-IsRefusedOneWay = (text : List ℕ) (m n : ℕ) → IsRefused text (faults.Line m) → IsRefused text (faults.Line n) → m ≡ n
+IsRefusedOneWay = (text : List ℕ) (m n : ℕ) → IsNoJournal text (faults.Line m) → IsNoJournal text (faults.Line n) → m ≡ n
 
 -- a journal is not refused at any line
 abbrev pub IsReadOrRefused : Type 0
-IsReadOrRefused = (text : List ℕ) (p t n : ℕ) (xs : List Entry) → IsJournalOf text p t xs → IsRefused text (faults.Line n) → ⊥
+IsReadOrRefused = (text : List ℕ) (p t n : ℕ) (xs : List Entry) → IsJournalOf text p t xs → IsNoJournal text (faults.Line n) → ⊥

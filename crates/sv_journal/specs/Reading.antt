@@ -1,16 +1,16 @@
 -- What a journal's text is read as, and which line of a text is the first that is none of a journal.
 use Rattle.std.specs.Prelude.{◌≡◌, ◌≤◌, ◌<◌, ◌+◌, ◌++◌, ◌⊎◌, ℕ, List, length, All, Option, None}
-use Rattle.sv_plain.specs.declared.entry.Entry.{Entry}
+use Rattle.sv_plain.specs.declared.history.entry.Entry.{Entry}
 use Rattle.sv_journal.specs.declared.journal_fault.JournalFault.{JournalFault}
 use Rattle.sv_journal.specs.declared.journal_fault.JournalFault.TheVariants as faults
-use Rattle.sv_journal.specs.Allowed.{AreSizes, IsAllowed}
+use Rattle.sv_journal.specs.Allowed.{AreSizes, IsJournalEntry}
 use Rattle.sv_journal.specs.Fits.{Fits}
 use Rattle.sv_journal.specs.Spelling.{entry_line, head_line, journal_text}
 
 -- the text is that of these entries, of so many processes over a table of so many in-core inodes
 pub record IsTextOf (text : List ℕ) (processes table : ℕ) (entries : List Entry) : Type 0 where
   pub sizes : AreSizes processes table
-  pub allowed : All (IsAllowed processes) entries
+  pub allowed : All (IsJournalEntry processes) entries
   pub fits : All Fits entries
   pub spelled : text ≡ journal_text processes table entries
 
@@ -25,7 +25,7 @@ HasNoHead text = (processes table : ℕ) (rest : List ℕ) → AreSizes processe
 
 -- the text begins with no line of an entry
 abbrev pub HasNoEntry : ℕ → List ℕ → Type 0
-HasNoEntry processes text = (e : Entry) (rest : List ℕ) → Fits e → IsAllowed processes e → text ≡ entry_line e ++ rest → ⊥
+HasNoEntry processes text = (e : Entry) (rest : List ℕ) → Fits e → IsJournalEntry processes e → text ≡ entry_line e ++ rest → ⊥
 
 -- a text that is too long is refused at line 0
 pub record IsTooLong (text : List ℕ) (line : ℕ) : Type 0 where
@@ -53,9 +53,9 @@ pub record IsRefusedLater (text : List ℕ) (line : ℕ) : Type 0 where
   pub none : HasNoEntry processes rest
 
 -- this line is the first that is none of a journal; want of memory needs no cause
-abbrev pub IsRefused : List ℕ → JournalFault → Type 0
-IsRefused text (faults.Line line) = IsTooLong text line ⊎ (IsRefusedFirst text line ⊎ IsRefusedLater text line)
-IsRefused text faults.NoMemory = Unit {0}
+abbrev pub IsNoJournal : List ℕ → JournalFault → Type 0
+IsNoJournal text (faults.Line line) = IsTooLong text line ⊎ (IsRefusedFirst text line ⊎ IsRefusedLater text line)
+IsNoJournal text faults.NoMemory = Unit {0}
 
 -- so many lines were read, and the rest is to come
 pub record IsAt (text rest : List ℕ) (processes table : ℕ) (entries : List Entry) : Type 0 where

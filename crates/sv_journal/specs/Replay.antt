@@ -1,6 +1,6 @@
 -- What a history that is replayed leads to, and where it cannot go on.
 use Rattle.std.specs.Prelude.{◌≡◌, ◌<◌, ◌⊎◌, ℕ, false, List, length, take, Some, slice_get}
-use Rattle.sv_plain.specs.declared.entry.Entry.{Entry}
+use Rattle.sv_plain.specs.declared.history.entry.Entry.{Entry}
 use Rattle.sv_plain.specs.Fs.{Fs}
 use Rattle.sv_plain.specs.History.{IsLegal, after}
 use Rattle.sv_plain.specs.Step.{condition, replies}

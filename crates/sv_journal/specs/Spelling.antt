@@ -6,19 +6,19 @@ use Rattle.std.specs.Fmt.{decimal, digits, signed_decimal}
 use Rattle.hex.specs.Hex.{encode_lower}
 use Rattle.sv_form.specs.declared.kind.Kind.{Kind}
 use Rattle.sv_form.specs.declared.kind.Kind.TheVariants.{File, Dir}
-use Rattle.sv_plain.specs.declared.entry.Entry.{Entry}
-use Rattle.sv_plain.specs.declared.mode.Mode.{Mode}
-use Rattle.sv_plain.specs.declared.mode.Mode.TheVariants.{R, W, RW}
-use Rattle.sv_plain.specs.declared.need.Need.{Need}
-use Rattle.sv_plain.specs.declared.need.Need.TheVariants as need
-use Rattle.sv_plain.specs.declared.op.Op.{Op}
-use Rattle.sv_plain.specs.declared.op.Op.TheVariants.{Look, Drop, Create, AddLink, Enter, SubLink, Unlink, Rmdir, OpenFile, CloseFile}
-use Rattle.sv_plain.specs.declared.op.Op.TheVariants.{DupFile, Read, Write, Seek, Trunc, Stat, Promise, Forgo, Sync, Purge}
-use Rattle.sv_plain.specs.declared.reply.Reply.{Reply}
-use Rattle.sv_plain.specs.declared.reply.Reply.TheVariants.{Found, NotFound, NotDir, Gone, Full, Fault, Kept, Freed, Late, LateMemory, Made}
-use Rattle.sv_plain.specs.declared.reply.Reply.TheVariants.{ManyLinks, NoInode, Raised, IsDir, Entered, Exists, Lowered, Removed, Plain}
-use Rattle.sv_plain.specs.declared.reply.Reply.TheVariants.{NotEmpty, Opened, Dupped, Got, Wrote, FaultAfter, At, Bad, Done, Status}
-use Rattle.sv_plain.specs.declared.reply.Reply.TheVariants.{Granted, NoSpace, TooBig}
+use Rattle.sv_plain.specs.declared.history.entry.Entry.{Entry}
+use Rattle.sv_plain.specs.declared.fs.mode.Mode.{Mode}
+use Rattle.sv_plain.specs.declared.fs.mode.Mode.TheVariants.{R, W, RW}
+use Rattle.sv_plain.specs.declared.history.need.Need.{Need}
+use Rattle.sv_plain.specs.declared.history.need.Need.TheVariants as need
+use Rattle.sv_plain.specs.declared.history.op.Op.{Op}
+use Rattle.sv_plain.specs.declared.history.op.Op.TheVariants.{Look, Drop, Create, AddLink, Enter, SubLink, Unlink, Rmdir, OpenFile, CloseFile}
+use Rattle.sv_plain.specs.declared.history.op.Op.TheVariants.{DupFile, Read, Write, Seek, Trunc, Stat, Promise, Forgo, Sync, Purge}
+use Rattle.sv_plain.specs.declared.history.reply.Reply.{Reply}
+use Rattle.sv_plain.specs.declared.history.reply.Reply.TheVariants.{Found, NotFound, NotDir, Gone, Full, Fault, Kept, Freed, Late, LateMemory, Made}
+use Rattle.sv_plain.specs.declared.history.reply.Reply.TheVariants.{ManyLinks, NoInode, Raised, IsDir, Entered, Exists, Lowered, Removed, Plain}
+use Rattle.sv_plain.specs.declared.history.reply.Reply.TheVariants.{NotEmpty, Opened, Dupped, Got, Wrote, FaultAfter, At, Bad, Done, Status}
+use Rattle.sv_plain.specs.declared.history.reply.Reply.TheVariants.{Granted, NoSpace, TooBig}
 
 -- ---- words
 

@@ -7,8 +7,8 @@ use Rattle.hex.specs.Hex.{decode_of}
 use Rattle.hex.specs.declared.error.FromHexError.{FromHexError}
 use Rattle.sv_form.specs.declared.kind.Kind.{Kind}
 use Rattle.sv_form.specs.declared.kind.Kind.TheVariants.{File, Dir}
-use Rattle.sv_plain.specs.declared.mode.Mode.{Mode}
-use Rattle.sv_plain.specs.declared.mode.Mode.TheVariants.{R, W, RW}
+use Rattle.sv_plain.specs.declared.fs.mode.Mode.{Mode}
+use Rattle.sv_plain.specs.declared.fs.mode.Mode.TheVariants.{R, W, RW}
 use Rattle.sv_journal.specs.Outcome.{◌>>=◌}
 -- numbers, and which bytes are digits of bytes
 pub use Rattle.sv_plain.specs.Digits.{are_digits, has_leading_zero, is_lower_hex, number_of, value_of}

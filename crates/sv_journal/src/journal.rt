@@ -2,7 +2,7 @@
 ghost use Rattle.std.specs.Prelude.{◌≡◌, ◌≤◌, IfErr, OnOk, OnErr, All};
 ghost use Rattle.sv_dev.specs.Causes.{Rose};
 ghost use Rattle.sv_dev.specs.Told.{grown, AppendsFront};
-ghost use Rattle.sv_journal.specs.Allowed.{AreSizes, IsAllowed};
+ghost use Rattle.sv_journal.specs.Allowed.{AreSizes, IsJournalEntry};
 ghost use Rattle.sv_journal.specs.Cause.{HasCauseOf};
 ghost use Rattle.sv_journal.specs.Spelling.{entry_line, head_line, journal_text};
 
@@ -21,7 +21,7 @@ pub fn write<O: Sink>(
     out: &mut O,
 ) -> Result<(), WriteFault>
     requires sizes { AreSizes processes table }
-    requires allowed { All (IsAllowed processes) entries.now }
+    requires allowed { All (IsJournalEntry processes) entries.now }
     ensures ok { OnOk result (O.written out.new ≡ grown (O.written out.old) (journal_text processes table entries.now)) }
     ensures err { OnErr result (AppendsFront (O.written out.old) (O.written out.new) (journal_text processes table entries.now)) }
     ensures cause { IfErr result (HasCauseOf (Rose (O.faults out.old) (O.faults out.new))) }

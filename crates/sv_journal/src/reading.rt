@@ -2,7 +2,7 @@
 ghost use Rattle.std.specs.Prelude.{◌≡◌, ◌<◌, ◌^◌, Some, length, IfOk, IfErr};
 ghost use Rattle.sv_journal.specs.Grammar.{entry, head};
 ghost use Rattle.sv_journal.specs.OneReading.{IsReadOneWay, IsReadOrRefused, IsRefusedOneWay};
-ghost use Rattle.sv_journal.specs.Reading.{IsJournalOf, IsRefused, StopsAt};
+ghost use Rattle.sv_journal.specs.Reading.{IsJournalOf, IsNoJournal, StopsAt};
 
 use crate::JournalFault;
 use crate::read_line::{entry, head};
@@ -25,7 +25,7 @@ pub struct Journal {
 pub fn read(alloc: Global, text: &[u8]) -> Result<Journal, JournalFault>
     ensures read { IfOk result (λ j. IsJournalOf text.now j.processes j.table j.entries) }
     ensures few { IfOk result (λ j. length j.entries < 2 ^ 32) }
-    ensures refused { IfErr result (IsRefused text.now) }
+    ensures refused { IfErr result (IsNoJournal text.now) }
 {
     if text.len() > TEXT_MAX {
         return Err(JournalFault::Line(0));

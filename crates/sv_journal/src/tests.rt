@@ -1,5 +1,5 @@
 ghost use Rattle.std.specs.Prelude.{◌≡◌, IfOk, OnOk, All, true, false};
-ghost use Rattle.sv_journal.specs.Allowed.{IsAllowed, is_purge, is_reply_of};
+ghost use Rattle.sv_journal.specs.Allowed.{IsJournalEntry, is_purge, is_reply_of};
 
 use crate::{WriteFault, write};
 use std::alloc::{AllocError, Global};
@@ -41,9 +41,9 @@ pub(crate) const WORKED: &[u8] = b"svj 1 1 100
 ";
 
 fn put(entries: &mut Vec<Entry>, entry: Entry) -> Result<(), AllocError>
-    requires before { All (IsAllowed 1) entries.old.items }
-    requires allowed { IsAllowed 1 entry }
-    ensures { OnOk result (All (IsAllowed 1) entries.new.items) }
+    requires before { All (IsJournalEntry 1) entries.old.items }
+    requires allowed { IsJournalEntry 1 entry }
+    ensures { OnOk result (All (IsJournalEntry 1) entries.new.items) }
 {
     entries.push(entry)?;
     Ok(())
@@ -51,10 +51,10 @@ fn put(entries: &mut Vec<Entry>, entry: Entry) -> Result<(), AllocError>
 
 // One entry more, of process 1.
 fn add(entries: &mut Vec<Entry>, op: Op, reply: Reply) -> Result<(), AllocError>
-    requires before { All (IsAllowed 1) entries.old.items }
+    requires before { All (IsJournalEntry 1) entries.old.items }
     requires system { is_purge op ≡ false }
     requires reply { is_reply_of op reply ≡ true }
-    ensures { OnOk result (All (IsAllowed 1) entries.new.items) }
+    ensures { OnOk result (All (IsJournalEntry 1) entries.new.items) }
 {
     let entry = Entry {
         process: 1,
@@ -70,8 +70,8 @@ fn bytes(alloc: Global, from: &[u8]) -> Result<Bytes, AllocError> {
 
 // The directory `home`, and a file `a` in it.
 fn make(entries: &mut Vec<Entry>, home: Name, a: Name) -> Result<(), AllocError>
-    requires { All (IsAllowed 1) entries.old.items }
-    ensures { OnOk result (All (IsAllowed 1) entries.new.items) }
+    requires { All (IsJournalEntry 1) entries.old.items }
+    ensures { OnOk result (All (IsJournalEntry 1) entries.new.items) }
 {
     let need = Need::Make { dir: 2, name: home };
     add(entries, Op::Promise { need }, Reply::Granted(1))?;
@@ -100,8 +100,8 @@ fn make(entries: &mut Vec<Entry>, home: Name, a: Name) -> Result<(), AllocError>
 
 // Six bytes into the file.
 fn fill(entries: &mut Vec<Entry>, hello: Bytes) -> Result<(), AllocError>
-    requires { All (IsAllowed 1) entries.old.items }
-    ensures { OnOk result (All (IsAllowed 1) entries.new.items) }
+    requires { All (IsJournalEntry 1) entries.old.items }
+    ensures { OnOk result (All (IsJournalEntry 1) entries.new.items) }
 {
     let mode = Mode::W;
     add(entries, Op::OpenFile { ino: 4, mode }, Reply::Opened(0))?;
@@ -118,8 +118,8 @@ fn fill(entries: &mut Vec<Entry>, hello: Bytes) -> Result<(), AllocError>
 
 // Four of them back, and what the file's inode says.
 fn look(entries: &mut Vec<Entry>, home: Name, a: Name, ello: Bytes) -> Result<(), AllocError>
-    requires { All (IsAllowed 1) entries.old.items }
-    ensures { OnOk result (All (IsAllowed 1) entries.new.items) }
+    requires { All (IsJournalEntry 1) entries.old.items }
+    ensures { OnOk result (All (IsJournalEntry 1) entries.new.items) }
 {
     add(entries, Op::Look { dir: 2, name: home }, Reply::Found(3))?;
     add(entries, Op::Look { dir: 3, name: a }, Reply::Found(4))?;
@@ -145,8 +145,8 @@ fn look(entries: &mut Vec<Entry>, home: Name, a: Name, ello: Bytes) -> Result<()
 
 // What the directory's inode says, and the end.
 fn end(entries: &mut Vec<Entry>, home: Name) -> Result<(), AllocError>
-    requires { All (IsAllowed 1) entries.old.items }
-    ensures { OnOk result (All (IsAllowed 1) entries.new.items) }
+    requires { All (IsJournalEntry 1) entries.old.items }
+    ensures { OnOk result (All (IsJournalEntry 1) entries.new.items) }
 {
     add(entries, Op::Look { dir: 2, name: home }, Reply::Found(3))?;
     let status = Reply::Status {
@@ -168,7 +168,7 @@ fn end(entries: &mut Vec<Entry>, home: Name) -> Result<(), AllocError>
 }
 
 pub(crate) fn worked(alloc: Global, home: Name, a: Name) -> Result<Vec<Entry>, AllocError>
-    ensures { IfOk result (λ entries. All (IsAllowed 1) entries.items) }
+    ensures { IfOk result (λ entries. All (IsJournalEntry 1) entries.items) }
 {
     let mut entries = Vec::new(alloc);
     make(&mut entries, home, a)?;

@@ -4,7 +4,7 @@ use Rattle.std.specs.Ordering.{nat_cmp}
 use Rattle.std.specs.FinMap as map
 use Rattle.sv_form.specs.Pair.{pair_cmp}
 use Rattle.sv_form.specs.Node.{used, block_set, numbers_per}
-use Rattle.sv_plain.specs.declared.opening.Opening.{Opening}
+use Rattle.sv_plain.specs.declared.fs.opening.Opening.{Opening}
 use Rattle.sv_plain.specs.Totals.{total, at_or_0, one_if}
 use Rattle.sv_form.specs.declared.geometry.Geometry.{Geometry}
 use Rattle.sv_form.specs.Geometry.{IsGeometry, inode_count}

@@ -9,7 +9,7 @@ use Rattle.sv_form.specs.Node.{Node, entry_count, entry_inode}
 use Rattle.sv_plain.specs.Fs.{Fs, changed, insert_some, with_page, with_page_of, page_of, is_live}
 use Rattle.sv_plain.specs.Names.{place_of, child_of, child, links_of, is_open_to_names}
 use Rattle.sv_form.specs.NodeChanges.{touched, page_after, with_pages, put}
-use Rattle.sv_plain.specs.declared.reply.Reply.TheVariants.{Removed}
+use Rattle.sv_plain.specs.declared.history.reply.Reply.TheVariants.{Removed}
 use Rattle.sv_plain.specs.Step.{rmdir_change}
 use Rattle.sv_plain.specs.Totals.{at_or_0}
 use Rattle.sv_plain.specs.Whole.{IsWhole, IsDirectory}

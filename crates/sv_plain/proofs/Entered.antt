@@ -10,7 +10,7 @@ use Rattle.sv_plain.specs.Change.{entry_bytes, with_entry, spent}
 use Rattle.sv_plain.specs.Entered.{with_size, with_sized_page}
 use Rattle.sv_plain.specs.Step.{enter_change}
 use Rattle.sv_plain.specs.Needs.{enter_need}
-use Rattle.sv_plain.specs.declared.reply.Reply.TheVariants.{Entered}
+use Rattle.sv_plain.specs.declared.history.reply.Reply.TheVariants.{Entered}
 use Rattle.sv_plain.specs.Whole.{IsWhole}
 use Rattle.sv_plain.proofs.ClearedEntry.{changed-twice}
 use Rattle.sv_plain.proofs.EntryPut.{put-is}

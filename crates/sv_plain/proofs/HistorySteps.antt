@@ -6,16 +6,16 @@ use Rattle.std.specs.FinMap as map
 use Rattle.std.specs.FinMap.{nat_cmp-IsAntisymmetric}
 use Rattle.sv_form.specs.Node.{Node}
 use Rattle.sv_form.specs.Pair.{pair_cmp}
-use Rattle.sv_plain.specs.declared.entry.Entry.{Entry}
-use Rattle.sv_plain.specs.declared.need.Need.{Need}
-use Rattle.sv_plain.specs.declared.need.Need.TheVariants as need
-use Rattle.sv_plain.specs.declared.op.Op.{Op}
-use Rattle.sv_plain.specs.declared.op.Op.TheVariants.{Look, Drop, Create, AddLink, Enter, SubLink, Unlink, Rmdir, OpenFile, CloseFile, DupFile, Read, Write, Seek, Trunc, Stat, Promise, Forgo, Sync, Purge}
-use Rattle.sv_plain.specs.declared.opening.Opening.{Opening}
-use Rattle.sv_plain.specs.declared.reply.Reply.{Reply}
-use Rattle.sv_plain.specs.declared.reply.Reply.TheVariants.{Found, Freed, Late, LateMemory, Made, Raised, Entered, Lowered, Removed, Opened, Dupped, Got, Wrote, FaultAfter, At, Done, Granted}
+use Rattle.sv_plain.specs.declared.history.entry.Entry.{Entry}
+use Rattle.sv_plain.specs.declared.history.need.Need.{Need}
+use Rattle.sv_plain.specs.declared.history.need.Need.TheVariants as need
+use Rattle.sv_plain.specs.declared.history.op.Op.{Op}
+use Rattle.sv_plain.specs.declared.history.op.Op.TheVariants.{Look, Drop, Create, AddLink, Enter, SubLink, Unlink, Rmdir, OpenFile, CloseFile, DupFile, Read, Write, Seek, Trunc, Stat, Promise, Forgo, Sync, Purge}
+use Rattle.sv_plain.specs.declared.fs.opening.Opening.{Opening}
+use Rattle.sv_plain.specs.declared.history.reply.Reply.{Reply}
+use Rattle.sv_plain.specs.declared.history.reply.Reply.TheVariants.{Found, Freed, Late, LateMemory, Made, Raised, Entered, Lowered, Removed, Opened, Dupped, Got, Wrote, FaultAfter, At, Done, Granted}
 use Rattle.sv_form.specs.declared.kind.Kind.{Kind}
-use Rattle.sv_plain.specs.declared.mode.Mode.{Mode}
+use Rattle.sv_plain.specs.declared.fs.mode.Mode.{Mode}
 use Rattle.sv_plain.specs.Change.{without_lost}
 use Rattle.sv_plain.specs.Fs.{Fs}
 use Rattle.sv_plain.specs.History.{IsAllowed, IsLegal, Leads, own}

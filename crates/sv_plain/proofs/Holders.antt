@@ -5,7 +5,7 @@ use Rattle.std.proofs.lemmas.Bool.Decides.{nat_tests}
 use Rattle.std.specs.Ordering.{nat_cmp}
 use Rattle.std.specs.FinMap as map
 use Rattle.sv_form.specs.Pair.{pair_cmp, pair_cmp_total, pair_cmp-IsAntisymmetric}
-use Rattle.sv_plain.specs.declared.opening.Opening.{Opening}
+use Rattle.sv_plain.specs.declared.fs.opening.Opening.{Opening}
 use Rattle.sv_plain.specs.Totals.{at_or_0, one_if}
 use Rattle.sv_plain.specs.Fs.{holders, places_taken}
 use Rattle.sv_plain.proofs.Totals.{total-insert, total-remove}

@@ -6,8 +6,8 @@ use Rattle.sv_form.specs.declared.kind.Kind.{Kind}
 use Rattle.sv_form.specs.declared.kind.Kind.TheVariants.{File, Dir}
 use Rattle.sv_form.specs.Name.{IsName}
 use Rattle.sv_form.specs.Node.{Node}
-use Rattle.sv_plain.specs.declared.reply.Reply.{Reply}
-use Rattle.sv_plain.specs.declared.reply.Reply.TheVariants.{Found, Made}
+use Rattle.sv_plain.specs.declared.history.reply.Reply.{Reply}
+use Rattle.sv_plain.specs.declared.history.reply.Reply.TheVariants.{Found, Made}
 use Rattle.sv_plain.specs.Fs.{Fs, changed, is_live, is_full_for, free_inodes}
 use Rattle.sv_plain.specs.Totals.{at_or_0}
 use Rattle.sv_plain.specs.Whole.{IsWhole}

@@ -6,8 +6,8 @@ use Rattle.std.specs.FinMap as map
 use Rattle.std.specs.FinMap.{nat_cmp-IsAntisymmetric}
 use Rattle.sv_form.specs.declared.kind.Kind.TheVariants.{File, Dir}
 use Rattle.sv_form.specs.Node.{Node, is_dir, entry_inode, entry_count}
-use Rattle.sv_plain.specs.declared.mode.Mode.{Mode}
-use Rattle.sv_plain.specs.declared.mode.Mode.TheVariants.{R}
+use Rattle.sv_plain.specs.declared.fs.mode.Mode.{Mode}
+use Rattle.sv_plain.specs.declared.fs.mode.Mode.TheVariants.{R}
 use Rattle.sv_plain.specs.Totals.{at_or_0, one_if}
 use Rattle.sv_plain.specs.Fs.{Fs, used_by_all, promised, is_live, naming_count, namings, children, pending_on}
 use Rattle.sv_plain.specs.Whole.{IsWhole, IsNode, IsDirectory, IsPlaced, parent_of, ascend}

@@ -8,8 +8,8 @@ use Rattle.sv_form.specs.declared.kind.Kind.TheVariants.{File}
 use Rattle.sv_form.specs.Name.{IsName}
 use Rattle.sv_form.specs.Entry.{filled}
 use Rattle.sv_form.specs.Node.{Node, entry_count, entry_inode, entry_name, used}
-use Rattle.sv_plain.specs.declared.reply.Reply.{Reply}
-use Rattle.sv_plain.specs.declared.reply.Reply.TheVariants.{Entered}
+use Rattle.sv_plain.specs.declared.history.reply.Reply.{Reply}
+use Rattle.sv_plain.specs.declared.history.reply.Reply.TheVariants.{Entered}
 use Rattle.sv_plain.specs.Totals.{at_or_0, one_if}
 use Rattle.sv_plain.specs.Fs.{Fs, changed, is_live}
 use Rattle.sv_plain.specs.Whole.{IsWhole}

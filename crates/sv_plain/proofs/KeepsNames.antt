@@ -8,8 +8,8 @@ use Rattle.std.specs.FinMap as map
 use Rattle.std.specs.FinMap.{nat_cmp-IsAntisymmetric, find}
 use Rattle.sv_form.specs.declared.kind.Kind.TheVariants.{File}
 use Rattle.sv_form.specs.Node.{Node, entry_count, entry_inode, entry_name, used}
-use Rattle.sv_plain.specs.declared.reply.Reply.{Reply}
-use Rattle.sv_plain.specs.declared.reply.Reply.TheVariants.{Removed, Lowered}
+use Rattle.sv_plain.specs.declared.history.reply.Reply.{Reply}
+use Rattle.sv_plain.specs.declared.history.reply.Reply.TheVariants.{Removed, Lowered}
 use Rattle.sv_plain.specs.Totals.{at_or_0, one_if}
 use Rattle.sv_plain.specs.Fs.{Fs, used_by_all, promised, changed, insert_some, is_live, is_full_for, pending_on}
 use Rattle.sv_plain.specs.Whole.{IsWhole, IsEntryAt}

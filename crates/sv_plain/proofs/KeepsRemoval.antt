@@ -8,7 +8,7 @@ use Rattle.std.specs.Cmp.{IsTotalOrder, nat_cmp_total}
 use Rattle.std.specs.FinMap as map
 use Rattle.std.specs.FinMap.{FinMap, IsAntisymmetric, nat_cmp-IsAntisymmetric}
 use Rattle.sv_form.specs.Node.{Node, is_dir, used, entry_inode, entry_count}
-use Rattle.sv_plain.specs.declared.opening.Opening.{Opening}
+use Rattle.sv_plain.specs.declared.fs.opening.Opening.{Opening}
 use Rattle.sv_plain.specs.Totals.{total, at_or_0, one_if}
 use Rattle.sv_plain.specs.Fs.{Fs, holders, used_by_all, is_live, is_referenced, naming_count, namings, children, pending_on}
 use Rattle.sv_plain.specs.Whole.{IsWhole, parent_of, ascend}

@@ -5,8 +5,8 @@ use Rattle.std.proofs.lemmas.Bool.Decides.{nat_tests}
 use Rattle.std.specs.List.{range_with_len, count_by}
 use Rattle.std.specs.FinMap as map
 use Rattle.sv_form.specs.Node.{Node, is_dir, entry_count, entry_inode, used}
-use Rattle.sv_plain.specs.declared.reply.Reply.{Reply}
-use Rattle.sv_plain.specs.declared.reply.Reply.TheVariants.{Removed}
+use Rattle.sv_plain.specs.declared.history.reply.Reply.{Reply}
+use Rattle.sv_plain.specs.declared.history.reply.Reply.TheVariants.{Removed}
 use Rattle.sv_plain.specs.Totals.{at_or_0, one_if}
 use Rattle.sv_plain.specs.Fs.{Fs, changed, is_live, is_full_for, naming_count, namings}
 use Rattle.sv_plain.specs.Whole.{IsWhole}

@@ -6,11 +6,11 @@ use Rattle.std.specs.FinMap as map
 use Rattle.sv_form.specs.declared.kind.Kind.{Kind}
 use Rattle.sv_form.specs.declared.kind.Kind.TheVariants.{File, Dir}
 use Rattle.sv_form.specs.Node.{Node, used}
-use Rattle.sv_plain.specs.declared.mode.Mode.{Mode}
-use Rattle.sv_plain.specs.declared.mode.Mode.TheVariants.{R}
-use Rattle.sv_plain.specs.declared.opening.Opening.{Opening}
-use Rattle.sv_plain.specs.declared.reply.Reply.{Reply}
-use Rattle.sv_plain.specs.declared.reply.Reply.TheVariants.{Wrote, FaultAfter}
+use Rattle.sv_plain.specs.declared.fs.mode.Mode.{Mode}
+use Rattle.sv_plain.specs.declared.fs.mode.Mode.TheVariants.{R}
+use Rattle.sv_plain.specs.declared.fs.opening.Opening.{Opening}
+use Rattle.sv_plain.specs.declared.history.reply.Reply.{Reply}
+use Rattle.sv_plain.specs.declared.history.reply.Reply.TheVariants.{Wrote, FaultAfter}
 use Rattle.sv_plain.specs.Totals.{at_or_0}
 use Rattle.sv_plain.specs.Fs.{Fs}
 use Rattle.sv_plain.specs.Whole.{IsWhole}

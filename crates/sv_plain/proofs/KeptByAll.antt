@@ -1,8 +1,8 @@
 -- A file system stays whole by a step of any op.
 use Rattle.std.proofs.Common.{ℕ, sym, subst}
-use Rattle.sv_plain.specs.declared.op.Op.{Op}
-use Rattle.sv_plain.specs.declared.op.Op.TheVariants.{Look, Drop, Create, AddLink, Enter, SubLink, Unlink, Rmdir, OpenFile, CloseFile, DupFile, Read, Write, Seek, Trunc, Stat, Promise, Forgo, Sync, Purge}
-use Rattle.sv_plain.specs.declared.reply.Reply.{Reply}
+use Rattle.sv_plain.specs.declared.history.op.Op.{Op}
+use Rattle.sv_plain.specs.declared.history.op.Op.TheVariants.{Look, Drop, Create, AddLink, Enter, SubLink, Unlink, Rmdir, OpenFile, CloseFile, DupFile, Read, Write, Seek, Trunc, Stat, Promise, Forgo, Sync, Purge}
+use Rattle.sv_plain.specs.declared.history.reply.Reply.{Reply}
 use Rattle.sv_plain.specs.Fs.{Fs}
 use Rattle.sv_plain.specs.Whole.{IsWhole}
 use Rattle.sv_plain.specs.Names.{has_reference}

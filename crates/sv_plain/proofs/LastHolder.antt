@@ -4,7 +4,7 @@ use Rattle.std.proofs.lemmas.Bool.Decides.{nat_tests}
 use Rattle.std.specs.Cmp.{nat_cmp_total}
 use Rattle.std.specs.FinMap as map
 use Rattle.std.specs.Ordering.{eq_by_cmp, nat_cmp}
-use Rattle.sv_plain.specs.declared.opening.Opening.{Opening}
+use Rattle.sv_plain.specs.declared.fs.opening.Opening.{Opening}
 use Rattle.sv_plain.specs.Totals.{at_or_0, one_if}
 use Rattle.sv_plain.specs.Fs.{Fs, holders, is_referenced}
 use Rattle.sv_plain.specs.Names.{references_of, has_reference, links_of}

@@ -6,7 +6,7 @@ use Rattle.std.specs.FinMap.{nat_cmp-IsAntisymmetric}
 use Rattle.sv_form.specs.declared.kind.Kind.{Kind}
 use Rattle.sv_form.specs.declared.kind.Kind.TheVariants.{Dir}
 use Rattle.sv_form.specs.Node.{Node}
-use Rattle.sv_plain.specs.declared.reply.Reply.TheVariants.{Made}
+use Rattle.sv_plain.specs.declared.history.reply.Reply.TheVariants.{Made}
 use Rattle.sv_plain.specs.Totals.{at_or_0}
 use Rattle.sv_plain.specs.Fs.{Fs, changed, with_node, with_page, with_page_of, node_without_pages}
 use Rattle.sv_plain.specs.Names.{links_of}

@@ -16,7 +16,7 @@ use Rattle.std.specs.BTreeMap.{BTreeMap}
 use Rattle.std.specs.FinMap as fmap
 use Rattle.std.specs.FinMap.{nat_cmp-IsAntisymmetric}
 use Rattle.std.specs.FinSet as set
-use Rattle.sv_plain.specs.declared.name_index.NameIndex.{NameIndex}
+use Rattle.sv_plain.specs.declared.maps.name_index.NameIndex.{NameIndex}
 use Rattle.sv_form.specs.FileBytes.{page_byte}
 use Rattle.sv_form.specs.Node.{Node, byte_of, bytes_of, entry_inode, entry_name, name_bytes, until_zero}
 use Rattle.sv_plain.specs.Totals.{at_or_0}

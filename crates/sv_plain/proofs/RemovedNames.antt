@@ -5,7 +5,7 @@ use Rattle.std.specs.Cmp.{nat_cmp_total, Equal-is}
 use Rattle.std.specs.FinMap as map
 use Rattle.std.specs.FinMap.{nat_cmp-IsAntisymmetric}
 use Rattle.sv_form.specs.Node.{Node}
-use Rattle.sv_plain.specs.declared.reply.Reply.TheVariants.{Removed}
+use Rattle.sv_plain.specs.declared.history.reply.Reply.TheVariants.{Removed}
 use Rattle.sv_plain.specs.Totals.{at_or_0}
 use Rattle.sv_plain.specs.Fs.{Fs, changed, insert_some, with_page, with_page_of, is_full_for}
 use Rattle.sv_plain.specs.Names.{some_and, child, links_of, is_directory, is_open_to_names}

@@ -9,7 +9,7 @@ use Rattle.sv_form.specs.declared.kind.Kind.TheVariants.{Dir}
 use Rattle.sv_form.specs.Geometry.{IsGeometry, inode_count}
 use Rattle.sv_form.specs.Pair.{pair_cmp}
 use Rattle.sv_form.specs.Node.{Node, entry_inode, entry_count, used}
-use Rattle.sv_plain.specs.declared.opening.Opening.{Opening}
+use Rattle.sv_plain.specs.declared.fs.opening.Opening.{Opening}
 use Rattle.sv_plain.specs.Totals.{at_or_0, one_if}
 use Rattle.sv_plain.specs.Fs.{Fs, empty_fs, used_by_all, promised, is_live, naming_count, namings, children, pending_on}
 use Rattle.sv_plain.specs.Whole.{IsWhole, IsNode, IsDirectory}

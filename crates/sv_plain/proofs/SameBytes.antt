@@ -5,8 +5,8 @@ use Rattle.std.proofs.lemmas.Bool.Decides.{nat_tests}
 use Rattle.std.proofs.lemmas.List.FromFn.{length-map-range_with_len}
 use Rattle.std.proofs.Math.Seq.{drop-cons}
 use Rattle.std.specs.FinMap as fmap
-use Rattle.sv_plain.specs.declared.opening.Opening.{Opening}
-use Rattle.sv_plain.specs.declared.reply.Reply.TheVariants.{Got}
+use Rattle.sv_plain.specs.declared.fs.opening.Opening.{Opening}
+use Rattle.sv_plain.specs.declared.history.reply.Reply.TheVariants.{Got}
 use Rattle.sv_plain.specs.Fs.{Fs}
 use Rattle.sv_plain.specs.Whole.{IsWhole}
 use Rattle.sv_plain.specs.Step.{file_bytes, read_replies}

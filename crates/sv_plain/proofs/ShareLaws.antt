@@ -12,7 +12,7 @@ use Rattle.std.specs.FinMap as map
 use Rattle.std.specs.FinMap.{FinMap, IsAntisymmetric, nat_cmp-IsAntisymmetric, find, is_sorted}
 use Rattle.std.specs.FinMap.Entries.{below_all}
 use Rattle.sv_form.specs.Pair.{pair_cmp, pair_cmp_total, pair_cmp-IsAntisymmetric}
-use Rattle.sv_plain.specs.declared.opening.Opening.{Opening}
+use Rattle.sv_plain.specs.declared.fs.opening.Opening.{Opening}
 use Rattle.sv_plain.specs.Change.{one_more, one_less}
 use Rattle.sv_plain.specs.Fs.{Fs, holders}
 use Rattle.sv_plain.specs.Names.{references_of}

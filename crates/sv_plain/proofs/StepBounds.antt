@@ -2,7 +2,7 @@
 use Rattle.std.proofs.Common.{◌≡◌, ◌≤◌, ℕ, ◌==◌, ◌&&◌, Bool, true, false, not, List, Option, Some, None, IsSome, option_map, sym, refl, ap, subst, ◌∙◌}
 use Rattle.std.proofs.lemmas.Bool.{false≢true, eqb-true}
 use Rattle.std.specs.FinMap as map
-use Rattle.sv_plain.specs.declared.opening.Opening.{Opening}
+use Rattle.sv_plain.specs.declared.fs.opening.Opening.{Opening}
 use Rattle.sv_plain.specs.Fs.{Fs, is_full_for}
 use Rattle.sv_plain.specs.Whole.{IsWhole}
 use Rattle.sv_plain.specs.Names.{some_and, child, is_open_to_names, has_reference, child_passes}

@@ -8,7 +8,7 @@ use Rattle.sv_form.specs.declared.kind.Kind.TheVariants.{File, Dir}
 use Rattle.sv_form.specs.Node.{Node}
 use Rattle.sv_form.specs.NodeNames.{spelling}
 pub use Rattle.sv_form.specs.NodeNames.{with_entry, without_entry}
-use Rattle.sv_plain.specs.declared.opening.Opening.{Opening}
+use Rattle.sv_plain.specs.declared.fs.opening.Opening.{Opening}
 use Rattle.sv_plain.specs.Fs.{Fs}
 use Rattle.sv_plain.specs.Names.{references_of, is_lost}
 

@@ -11,9 +11,9 @@ use Rattle.sv_form.specs.Geometry.{inode_count}
 use Rattle.sv_form.specs.PagePath.{greatest_for}
 use Rattle.sv_form.specs.Pair.{pair_cmp}
 use Rattle.sv_form.specs.Node.{Node, node_code, is_dir, used, entry_inode, entry_count}
-use Rattle.sv_plain.specs.declared.mode.Mode.{Mode}
-use Rattle.sv_plain.specs.declared.mode.Mode.TheVariants.{R, W, RW}
-use Rattle.sv_plain.specs.declared.opening.Opening.{Opening}
+use Rattle.sv_plain.specs.declared.fs.mode.Mode.{Mode}
+use Rattle.sv_plain.specs.declared.fs.mode.Mode.TheVariants.{R, W, RW}
+use Rattle.sv_plain.specs.declared.fs.opening.Opening.{Opening}
 use Rattle.sv_plain.specs.Totals.{total, one_if}
 
 -- Nodes by inode number; references counted by process and inode; open files by number; the blocks promised to a

@@ -1,7 +1,7 @@
 -- Histories: lists of steps, one after another.
 use Rattle.std.specs.Prelude.{◌≡◌, ◌==◌, ℕ, true, List, [], ◌∷◌}
 use Rattle.std.specs.List.{filter}
-use Rattle.sv_plain.specs.declared.entry.Entry.{Entry}
+use Rattle.sv_plain.specs.declared.history.entry.Entry.{Entry}
 use Rattle.sv_plain.specs.Fs.{Fs}
 use Rattle.sv_plain.specs.Step.{Step, condition, replies, change_of}
 

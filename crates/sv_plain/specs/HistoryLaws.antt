@@ -1,6 +1,6 @@
 -- What holds of histories, one entry after another.
 use Rattle.std.specs.Prelude.{◌≡◌, ◌==◌, ◌++◌, ℕ, List, [], ◌∷◌, if◌then◌else◌}
-use Rattle.sv_plain.specs.declared.entry.Entry.{Entry}
+use Rattle.sv_plain.specs.declared.history.entry.Entry.{Entry}
 use Rattle.sv_plain.specs.Fs.{Fs}
 use Rattle.sv_plain.specs.History.{IsLegal, Leads, own}
 use Rattle.sv_plain.specs.Step.{Step}

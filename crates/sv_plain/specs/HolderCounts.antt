@@ -2,7 +2,7 @@
 use Rattle.std.specs.Prelude.{◌+◌, ◌-◌, ◌==◌, ℕ}
 use Rattle.std.specs.FinMap as map
 use Rattle.sv_plain.specs.Totals.{at_or_0, one_if}
-use Rattle.sv_plain.specs.declared.holder_counts.HolderCounts.{HolderCounts}
+use Rattle.sv_plain.specs.declared.maps.holder_counts.HolderCounts.{HolderCounts}
 
 abbrev pub held_of : HolderCounts → ℕ → ℕ
 held_of h i = at_or_0 (λ n. n) (map.get h.held i)

@@ -1,9 +1,9 @@
 -- What holds of the steps themselves.
 use Rattle.std.specs.Prelude.{ℕ}
 use Rattle.sv_form.specs.Name.{IsName}
-use Rattle.sv_plain.specs.declared.op.Op.{Op}
-use Rattle.sv_plain.specs.declared.op.Op.TheVariants.{Create, Enter}
-use Rattle.sv_plain.specs.declared.reply.Reply.{Reply}
+use Rattle.sv_plain.specs.declared.history.op.Op.{Op}
+use Rattle.sv_plain.specs.declared.history.op.Op.TheVariants.{Create, Enter}
+use Rattle.sv_plain.specs.declared.history.reply.Reply.{Reply}
 use Rattle.sv_plain.specs.Fs.{Fs}
 use Rattle.sv_plain.specs.Whole.{IsWhole}
 use Rattle.sv_plain.specs.Step.{Step}

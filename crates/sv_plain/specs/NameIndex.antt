@@ -7,7 +7,7 @@ use Rattle.std.specs.BTreeMap as tree
 use Rattle.std.specs.FinMap as fmap
 use Rattle.std.specs.FinSet as set
 use Rattle.sv_form.specs.FileBytes.{page_byte}
-use Rattle.sv_plain.specs.declared.name_index.NameIndex.{NameIndex}
+use Rattle.sv_plain.specs.declared.maps.name_index.NameIndex.{NameIndex}
 
 -- the number of these bytes up to the first zero, once those before them made `key`: fourteen bytes have room in it
 abbrev pub key_from : ℕ → List ℕ → ℕ

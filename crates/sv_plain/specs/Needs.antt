@@ -3,8 +3,8 @@ use Rattle.std.specs.Prelude.{◌+◌, ◌||◌, ℕ, Bool, not, List, is_some, 
 use Rattle.std.specs.FinMap as map
 unfoldable pub use Rattle.sv_form.specs.NodeNeeds.{blocks_added}
 pub use Rattle.sv_form.specs.NodeNeeds.{range_need, entry_need}
-use Rattle.sv_plain.specs.declared.need.Need.{Need}
-use Rattle.sv_plain.specs.declared.need.Need.TheVariants.{Write, Enter, Make}
+use Rattle.sv_plain.specs.declared.history.need.Need.{Need}
+use Rattle.sv_plain.specs.declared.history.need.Need.TheVariants.{Write, Enter, Make}
 use Rattle.sv_plain.specs.Totals.{at_or_0}
 use Rattle.sv_plain.specs.Fs.{Fs}
 use Rattle.sv_plain.specs.Names.{is_open_to_names, child}

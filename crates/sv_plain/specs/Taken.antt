@@ -1,9 +1,9 @@
 -- How a step is taken or refused.
 use Rattle.std.specs.Prelude.{◌≡◌, ℕ, true, false}
-use Rattle.sv_plain.specs.declared.op.Op.{Op}
-use Rattle.sv_plain.specs.declared.reply.Reply.{Reply}
-use Rattle.sv_plain.specs.declared.illegal.Illegal.{Illegal}
-use Rattle.sv_plain.specs.declared.illegal.Illegal.TheVariants as illegal
+use Rattle.sv_plain.specs.declared.history.op.Op.{Op}
+use Rattle.sv_plain.specs.declared.history.reply.Reply.{Reply}
+use Rattle.sv_plain.specs.declared.history.illegal.Illegal.{Illegal}
+use Rattle.sv_plain.specs.declared.history.illegal.Illegal.TheVariants as illegal
 use Rattle.sv_plain.specs.Fs.{Fs}
 use Rattle.sv_plain.specs.Step.{condition, replies, change_of}
 

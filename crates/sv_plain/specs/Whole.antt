@@ -7,8 +7,8 @@ use Rattle.sv_form.specs.declared.kind.Kind.TheVariants.{File, Dir}
 use Rattle.sv_form.specs.Name.{IsName}
 use Rattle.sv_form.specs.Entry.{filled}
 use Rattle.sv_form.specs.Node.{Node, entry_inode, entry_count, entry_name, name_bytes}
-use Rattle.sv_plain.specs.declared.mode.Mode.TheVariants.{R}
-use Rattle.sv_plain.specs.declared.opening.Opening.{Opening}
+use Rattle.sv_plain.specs.declared.fs.mode.Mode.TheVariants.{R}
+use Rattle.sv_plain.specs.declared.fs.opening.Opening.{Opening}
 use Rattle.sv_plain.specs.Totals.{at_or_0}
 use Rattle.sv_plain.specs.Fs.{Fs, used_by_all, promised, places_taken, is_live, naming_count, namings, children, pending_on}
 

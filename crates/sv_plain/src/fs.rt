@@ -8,11 +8,15 @@ ghost use Rattle.sv_plain.specs.Whole.{IsWhole};
 mod changes;
 mod entries;
 mod entry_needs;
+mod mode;
 mod nodes;
+mod opening;
 mod pages;
 mod queries;
 
-use crate::{HolderCounts, NoMemory, Node, Nodes, NumberMap, Opening, PairMap, PairSet};
+use crate::{HolderCounts, NoMemory, Node, Nodes, NumberMap, PairMap, PairSet};
+pub use mode::Mode;
+pub use opening::Opening;
 use std::alloc::Global;
 use std::marker::Model;
 use sv_form::{Bytes, Geometry, Kind};

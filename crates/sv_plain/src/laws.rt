@@ -1,9 +1,8 @@
-// What holds of the steps themselves, without code.
-ghost use Rattle.sv_plain.specs.declared.op.Op.{Op};
-ghost use Rattle.sv_plain.specs.Laws.{EntersName, KeepsWhole};
+// What holds without code: of the steps, of histories, and of the shares of inodes.
+mod histories;
+mod shares;
+mod steps;
 
-/// A step of any op leaves a whole file system whole, whichever reply it has. Of ops that enter a name this is said of
-/// names (1 to 14 bytes, no slash or zero).
-pub fn steps_keep_whole()
-    ensures { (op : Op) → EntersName op → KeepsWhole op }
-{}
+pub use histories::{histories_grow, histories_keep_sizes, histories_lead_legally};
+pub use shares::{shares_are_counted, unshared_is_unreferenced};
+pub use steps::steps_keep_whole;

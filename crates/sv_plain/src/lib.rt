@@ -13,57 +13,27 @@
 #![tactic(auto)]
 
 mod beginning;
-mod blocks;
-mod digits;
-mod directory_bytes;
-mod entries;
-mod entry;
 mod fs;
-mod history_laws;
-mod holder_counts;
-mod illegal;
+mod history;
 mod laws;
-mod mode;
-mod name_index;
-mod need;
+mod maps;
 mod node;
-mod nodes;
-mod number_map;
-mod number_set;
-mod op;
-mod opening;
-mod page_need;
-mod pages;
-mod pair_map;
-mod pair_set;
-mod reply;
-mod share_laws;
 mod steps;
 mod taking;
 #[cfg(test)]
 mod tests;
-mod tree_text;
+mod text;
 
 pub use beginning::begin;
-pub use digits::{are_lower_hex, number_of, value_of};
-pub use entries::Entries;
-pub use entry::Entry;
-pub use fs::Fs;
-pub use history_laws::{histories_grow, histories_keep_sizes, histories_lead_legally};
-pub(crate) use holder_counts::HolderCounts;
-pub use illegal::Illegal;
-pub use laws::steps_keep_whole;
-pub use mode::Mode;
-pub use need::Need;
+pub use fs::{Fs, Mode, Opening};
+pub use history::{Entries, Entry, Illegal, Need, Op, Reply};
+pub use laws::{
+    histories_grow, histories_keep_sizes, histories_lead_legally, shares_are_counted,
+    steps_keep_whole, unshared_is_unreferenced,
+};
+pub(crate) use maps::{HolderCounts, Nodes};
+pub use maps::{NumberMap, PairMap, PairSet};
 pub use node::Node;
-pub(crate) use nodes::Nodes;
-pub use number_map::NumberMap;
-pub use op::Op;
-pub use opening::Opening;
-pub use pair_map::PairMap;
-pub use pair_set::PairSet;
-pub use reply::Reply;
-pub use share_laws::{shares_are_counted, unshared_is_unreferenced};
 pub use std::alloc::AllocError as NoMemory;
 pub use taking::apply;
-pub use tree_text::listing;
+pub use text::{are_lower_hex, listing, number_of, value_of};

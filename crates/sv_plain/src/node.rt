@@ -5,14 +5,17 @@ ghost use Rattle.sv_form.specs.Node.{blocks_at};
 ghost use Rattle.sv_plain.specs.Blocks.{with_blocks};
 ghost use Rattle.sv_plain.specs.Fs.{with_page};
 
+pub(crate) mod blocks;
 mod bytes;
+pub(crate) mod directory_bytes;
 mod entries;
+pub(crate) mod page_need;
 mod pages;
 mod writes;
 
-use crate::blocks::put_page_blocks;
-use crate::pages::Pages;
+use crate::maps::Pages;
 use crate::{NoMemory, PairSet};
+use blocks::put_page_blocks;
 pub(crate) use entries::byte_of_page;
 pub(crate) use pages::present;
 use std::alloc::Global;

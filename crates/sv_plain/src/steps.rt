@@ -1,8 +1,8 @@
 // The steps, one op at a time: its condition, its replies, and what each reply changes.
+mod create;
 mod entering;
 mod files;
 mod links;
-mod making;
 mod names;
 mod promises;
 mod purge;
@@ -10,4 +10,6 @@ mod reads;
 mod removal;
 mod room_needs;
 mod stat;
+mod sync;
+mod trunc;
 mod writes;

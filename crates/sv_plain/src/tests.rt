@@ -7,9 +7,9 @@ mod legal;
 mod refused;
 mod writes;
 
-use crate::blocks::put_page_blocks;
-use crate::directory_bytes::first_page;
-use crate::page_need::page_need;
+use crate::node::blocks::put_page_blocks;
+use crate::node::directory_bytes::first_page;
+use crate::node::page_need::page_need;
 use crate::{Fs, NoMemory, PairSet};
 use std::alloc::Global;
 use sv_form::{Bytes, Geometry, Kind};

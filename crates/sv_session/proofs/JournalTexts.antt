@@ -2,11 +2,11 @@
 use Rattle.std.proofs.Common.{◌≡◌, ◌≤◌, ◌++◌, ◌∙◌, ℕ, List, [], ◌∷◌, length, take, Option, Some, None, IfSome, subst, sym, ap, refl, arith, inl, inr}
 use Rattle.std.specs.List.{flat_map}
 use Rattle.std.proofs.lemmas.List.{length-append, length-take, take_all}
-use Rattle.sv_plain.specs.declared.entry.Entry.{Entry}
+use Rattle.sv_plain.specs.declared.history.entry.Entry.{Entry}
 use Rattle.sv_dev.specs.Names.{GivesUnder}
 use Rattle.sv_journal.specs.declared.journal_fault.JournalFault.TheVariants as faults
 use Rattle.sv_journal.specs.Gather.{Gathers}
-use Rattle.sv_journal.specs.Reading.{IsJournalOf, IsRefused}
+use Rattle.sv_journal.specs.Reading.{IsJournalOf, IsNoJournal}
 use Rattle.sv_journal.specs.Spelling.{entry_line, head_line, journal_text}
 use Rattle.sv_journal.proofs.ReadSteps.{line_some}
 use Rattle.sv_session.specs.Replay.{IsTextUnder, OnText}
@@ -46,10 +46,10 @@ whole_text bytes text is most =
 pub journal_of_text : (bytes text : List ℕ) (p t : ℕ) (entries : List Entry) → bytes ≡ take 536870913 text → IsJournalOf bytes p t entries → IsJournalOf text p t entries
 journal_of_text bytes text p t entries is h = subst (λ (b : List ℕ). IsJournalOf b p t entries) (whole_text bytes text is h.most) h
 
-pub refused_text : (bytes text : List ℕ) (line : ℕ) → bytes ≡ take 536870913 text → IsRefused bytes (faults.Line line) → IsRefused text (faults.Line line)
+pub refused_text : (bytes text : List ℕ) (line : ℕ) → bytes ≡ take 536870913 text → IsNoJournal bytes (faults.Line line) → IsNoJournal text (faults.Line line)
 refused_text bytes text line is (inl long) = inl (record { place = long.place; long = omega (arith, long.long, ap length is, length-take 536870913 text) })
-refused_text bytes text line is (inr (inl first)) = subst (λ (b : List ℕ). IsRefused b (faults.Line line)) (whole_text bytes text is first.most) (inr (inl first))
-refused_text bytes text line is (inr (inr later)) = subst (λ (b : List ℕ). IsRefused b (faults.Line line)) (whole_text bytes text is later.most) (inr (inr later))
+refused_text bytes text line is (inr (inl first)) = subst (λ (b : List ℕ). IsNoJournal b (faults.Line line)) (whole_text bytes text is first.most) (inr (inl first))
+refused_text bytes text line is (inr (inr later)) = subst (λ (b : List ℕ). IsNoJournal b (faults.Line line)) (whole_text bytes text is later.most) (inr (inr later))
 
 -- ---- a journal has no more entries than bytes
 

@@ -2,6 +2,7 @@
 use Rattle.std.specs.Prelude.{◌≡◌, ◌≢◌, ◌⊎◌, ℕ, List, Option, None, IfSome, IsSomeAnd}
 use Rattle.sv_dev.specs.Told.{grown, AppendsFront}
 use Rattle.sv_form.specs.Node.{Node}
+use Rattle.sv_check.specs.Condition.{number_of}
 use Rattle.sv_check.specs.FilePages.{file_of, text_of}
 use Rattle.sv_check.specs.Sound.{Flaw, IsSound}
 use Rattle.sv_session.specs.declared.stop.Stop.{Stop}
@@ -11,7 +12,7 @@ use Rattle.sv_session.specs.Command.{Command, cat, check, mkfs, replay}
 use Rattle.sv_session.specs.Making.{LeavesUnmade, Makes, StopsMaking}
 use Rattle.sv_session.specs.Replay.{LeavesListing, Lists, RefusesLine, StopsReplay}
 use Rattle.sv_session.specs.SoundLine.{sound_line}
-use Rattle.sv_session.specs.Stop.{status_of, line_of}
+use Rattle.sv_session.specs.Stop.{status_of, noted_line}
 
 -- where the host tells its images, one stands under that name, and this holds of it
 abbrev pub OnImage : Option (List ℕ → Option (List ℕ)) → List ℕ → (List ℕ → Type 0) → Type 0
@@ -20,7 +21,7 @@ OnImage images name P = IfSome images (λ under. IsSomeAnd (under name) P)
 -- Each stop has its cause: an image (`on` says that something holds of it), or a count of faults that rose.
 abbrev pub HasReason : ((List ℕ → Type 0) → Type 0) → (missing device file write : Type 0) → Stop → Type 0
 HasReason on missing device file write Words = ⊥
-HasReason on missing device file write (Refused number place) = on (λ image. Flaw image number place)
+HasReason on missing device file write (Refused condition place) = on (λ image. Flaw image (number_of condition) place)
 HasReason on missing device file write DeviceFault = device
 HasReason on missing device file write FileFault = file
 HasReason on missing device file write WriteFault = write
@@ -51,7 +52,7 @@ pub record LacksFile (n : ℕ) (image : List ℕ) : Type 0 where
 -- What a stop leaves in the sink: nothing was written where the image or the file is refused, else at most a front.
 abbrev pub LeavesSink : ((List ℕ → Type 0) → Type 0) → ℕ → Option (List ℕ) → Option (List ℕ) → Stop → Type 0
 LeavesSink on n old new Words = new ≡ old
-LeavesSink on n old new (Refused number place) = new ≡ old
+LeavesSink on n old new (Refused condition place) = new ≡ old
 LeavesSink on n old new (JournalRefused line) = new ≡ old
 LeavesSink on n old new NoSuchFile = new ≡ old
 LeavesSink on n old new DeviceFault = (new ≡ old) ⊎ on (ShowsFront n old new)
@@ -65,7 +66,7 @@ pub record CatAnswer (images : Option (List ℕ → Option (List ℕ))) (name : 
   pub done : status ≡ 0 → OnImage images name (Shows n old new)
   pub stopped : status ≢ 0 → (stop : Stop) × (status ≡ status_of stop)
       × HasReason (OnImage images name) (OnImage images name (LacksFile n)) device file write stop
-      × LeavesSink (OnImage images name) n old new stop × noted (line_of stop)
+      × LeavesSink (OnImage images name) n old new stop × noted (noted_line stop)
 
 -- ---- `check`
 
@@ -82,7 +83,7 @@ pub record IsCalledSoundInPart (old new : Option (List ℕ)) (image : List ℕ) 
 -- what a stop leaves in the sink: nothing, or where the sink failed a front of the line
 abbrev pub LeavesLine : ((List ℕ → Type 0) → Type 0) → Option (List ℕ) → Option (List ℕ) → Stop → Type 0
 LeavesLine on old new Words = new ≡ old
-LeavesLine on old new (Refused number place) = new ≡ old
+LeavesLine on old new (Refused condition place) = new ≡ old
 LeavesLine on old new (JournalRefused line) = new ≡ old
 LeavesLine on old new NoSuchFile = new ≡ old
 LeavesLine on old new DeviceFault = new ≡ old
@@ -95,7 +96,7 @@ pub record CheckAnswer (images : Option (List ℕ → Option (List ℕ))) (name 
     (old new : Option (List ℕ)) (noted : List ℕ → Type 0) (status : ℕ) : Type 0 where
   pub done : status ≡ 0 → OnImage images name (IsCalledSound old new)
   pub stopped : status ≢ 0 → (stop : Stop) × (status ≡ status_of stop) × HasReason (OnImage images name) ⊥ device file write stop
-      × LeavesLine (OnImage images name) old new stop × noted (line_of stop)
+      × LeavesLine (OnImage images name) old new stop × noted (noted_line stop)
 
 -- ---- `replay`
 
@@ -107,7 +108,7 @@ pub record ReplayAnswer (images texts : Option (List ℕ → Option (List ℕ)))
       × StopsReplay (λ number place. OnImage images name (λ image. Flaw image number place))
       (λ line. OnImage images name (RefusesLine texts journal line))
       device (file ⊎ source) write stop
-      × LeavesListing (OnImage images name) texts journal old new stop × noted (line_of stop)
+      × LeavesListing (OnImage images name) texts journal old new stop × noted (noted_line stop)
 
 -- ---- `mkfs`
 
@@ -116,7 +117,7 @@ pub record MkfsAnswer (old new : Option (List ℕ → Option (List ℕ))) (name 
     (noted : List ℕ → Type 0) (status : ℕ) : Type 0 where
   pub done : status ≡ 0 → Makes old new name blocks inodes
   pub stopped : status ≢ 0 → (stop : Stop) × (status ≡ status_of stop) × StopsMaking device file stop
-      × LeavesUnmade old new name blocks inodes stop × noted (line_of stop)
+      × LeavesUnmade old new name blocks inodes stop × noted (noted_line stop)
 
 -- ---- any command
 

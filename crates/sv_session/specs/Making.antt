@@ -27,7 +27,7 @@ MayHaveMade old new name blocks inodes =
 -- each stop has its cause, a count of faults that rose; want of memory is free
 abbrev pub StopsMaking : (device file : Type 0) → Stop → Type 0
 StopsMaking device file Words = ⊥
-StopsMaking device file (Refused number place) = ⊥
+StopsMaking device file (Refused condition place) = ⊥
 StopsMaking device file DeviceFault = device
 StopsMaking device file FileFault = file
 StopsMaking device file WriteFault = ⊥
@@ -38,7 +38,7 @@ StopsMaking device file NoSuchFile = ⊥
 -- What a stop leaves under the names. A disk that failed is not kept: the zero bytes stand there that it began with.
 abbrev pub LeavesUnmade : Under → Under → List ℕ → ℕ → ℕ → Stop → Type 0
 LeavesUnmade old new name blocks inodes Words = new ≡ old
-LeavesUnmade old new name blocks inodes (Refused number place) = new ≡ old
+LeavesUnmade old new name blocks inodes (Refused condition place) = new ≡ old
 LeavesUnmade old new name blocks inodes DeviceFault = StandsAlone old new name (zero_blocks blocks)
 LeavesUnmade old new name blocks inodes FileFault = MayHaveMade old new name blocks inodes
 LeavesUnmade old new name blocks inodes WriteFault = new ≡ old

@@ -2,14 +2,15 @@
 use Rattle.std.specs.Prelude.{◌≡◌, ◌⊎◌, ◌+◌, ℕ, List, Option, Some, IfSome}
 use Rattle.std.specs.FinMap as map
 use Rattle.sv_dev.specs.Told.{grown, AppendsFront}
-use Rattle.sv_plain.specs.declared.entry.Entry.{Entry}
+use Rattle.sv_plain.specs.declared.history.entry.Entry.{Entry}
 use Rattle.sv_plain.specs.Fs.{Fs, begun}
 use Rattle.sv_plain.specs.History.{IsLegal, after}
 use Rattle.sv_plain.specs.Listing.{listing_text}
+use Rattle.sv_check.specs.Condition.{number_of}
 use Rattle.sv_check.specs.Loaded.{loaded}
 use Rattle.sv_check.specs.Sound.{IsSound}
 use Rattle.sv_journal.specs.declared.journal_fault.JournalFault.TheVariants as faults
-use Rattle.sv_journal.specs.Reading.{IsJournalOf, IsRefused}
+use Rattle.sv_journal.specs.Reading.{IsJournalOf, IsNoJournal}
 use Rattle.sv_journal.specs.Replay.{IsFirstIllegal}
 use Rattle.sv_session.specs.declared.stop.Stop.{Stop}
 use Rattle.sv_session.specs.declared.stop.Stop.TheVariants.{Words, Refused, DeviceFault, FileFault, WriteFault, NoMemory, JournalRefused}
@@ -62,7 +63,7 @@ pub record IsIllegalOn (tree : Fs) (line : ℕ) (text : List ℕ) : Type 0 where
 
 -- this line is the first that is none of a journal, or in a journal it has the first illegal entry
 abbrev pub IsRefusedOver : Fs → ℕ → List ℕ → Type 0
-IsRefusedOver tree line text = IsRefused text (faults.Line line) ⊎ IsIllegalOn tree line text
+IsRefusedOver tree line text = IsNoJournal text (faults.Line line) ⊎ IsIllegalOn tree line text
 
 -- ---- both
 
@@ -89,7 +90,7 @@ pub record RefusesLine (texts : Option (List ℕ → Option (List ℕ))) (name :
 -- each stop has its cause: a refusal of the image or of a line of the journal, or a count of faults that rose
 abbrev pub StopsReplay : (refused : ℕ → ℕ → Type 0) (line_refused : ℕ → Type 0) (device file write : Type 0) → Stop → Type 0
 StopsReplay refused line_refused device file write Words = ⊥
-StopsReplay refused line_refused device file write (Refused number place) = refused number place
+StopsReplay refused line_refused device file write (Refused condition place) = refused (number_of condition) place
 StopsReplay refused line_refused device file write DeviceFault = device
 StopsReplay refused line_refused device file write FileFault = file
 StopsReplay refused line_refused device file write WriteFault = write
@@ -102,7 +103,7 @@ StopsReplay refused line_refused device file write NoSuchFile = ⊥
 abbrev pub LeavesListing : ((List ℕ → Type 0) → Type 0) → Option (List ℕ → Option (List ℕ)) → List ℕ → Option (List ℕ) → Option (List ℕ)
     → Stop → Type 0
 LeavesListing on texts name old new Words = new ≡ old
-LeavesListing on texts name old new (Refused number place) = new ≡ old
+LeavesListing on texts name old new (Refused condition place) = new ≡ old
 LeavesListing on texts name old new DeviceFault = new ≡ old
 LeavesListing on texts name old new FileFault = new ≡ old
 LeavesListing on texts name old new WriteFault = on (ListsFront texts name old new)

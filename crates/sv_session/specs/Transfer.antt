@@ -8,7 +8,7 @@ abbrev pub Transfers : (device write : Type 0) → Stop → Type 0
 Transfers device write DeviceFault = device
 Transfers device write WriteFault = write
 Transfers device write Words = ⊥
-Transfers device write (Refused number place) = ⊥
+Transfers device write (Refused condition place) = ⊥
 Transfers device write FileFault = ⊥
 Transfers device write NoMemory = ⊥
 Transfers device write (JournalRefused line) = ⊥

@@ -5,7 +5,7 @@ ghost use Rattle.sv_form.specs.Image.{geometry_of};
 ghost use Rattle.sv_check.specs.Sound.{IsSound};
 ghost use Rattle.sv_session.specs.declared.stop.Stop.{Stop};
 ghost use Rattle.sv_session.specs.Answer.{OnImage, HasReason, LacksFile, LeavesSink, Shows};
-ghost use Rattle.sv_session.specs.Stop.{status_of, line_of, Noted};
+ghost use Rattle.sv_session.specs.Stop.{status_of, noted_line, Noted};
 
 use crate::Stop;
 use crate::find::find_file;
@@ -38,7 +38,7 @@ pub fn cat_image<R: Files<File = File>, H: Host, O: Sink>(
         (Rose (H.disk_faults host.old) (H.disk_faults host.new))
         (Rose (H.faults host.old) (H.faults host.new)) (Rose (O.faults out.old) (O.faults out.new)) stop
         × LeavesSink (OnImage (H.images host.old) image.now) inode (O.written out.old) (O.written out.new) stop
-        × Noted (O.written note.old) (O.written note.new) (O.faults note.old) (O.faults note.new) (line_of stop) }
+        × Noted (O.written note.old) (O.written note.new) (O.faults note.old) (O.faults note.new) (noted_line stop) }
     ensures quiet { result ≡ 0 → O.written note.new ≡ O.written note.old }
     ensures images { H.images host.new ≡ H.images host.old }
     ensures texts { H.texts host.new ≡ H.texts host.old }

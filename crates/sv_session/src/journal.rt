@@ -6,7 +6,7 @@ ghost use Rattle.sv_plain.specs.History.{IsLegal, after};
 ghost use Rattle.sv_plain.specs.Listing.{listing_text};
 ghost use Rattle.sv_plain.specs.Whole.{IsWhole};
 ghost use Rattle.sv_journal.specs.declared.journal_fault.JournalFault.TheVariants.{Line};
-ghost use Rattle.sv_journal.specs.Reading.{IsJournalOf, IsRefused};
+ghost use Rattle.sv_journal.specs.Reading.{IsJournalOf, IsNoJournal};
 ghost use Rattle.sv_journal.specs.Replay.{IsFirstIllegal};
 ghost use Rattle.sv_session.specs.Replay.{HasReplay, IsIllegalAt, IsRefusedOver, IsUnused, OnText, StopsReplay};
 
@@ -49,7 +49,7 @@ fn read_journal<R: Files<File = File>, H: Host>(
 ) -> Result<Journal, Stop>
     ensures read { IfOk result (λ j. OnText (H.texts host.old) name.now (λ text. IsJournalOf text j.processes j.table j.entries)) }
     ensures reason { IfErr result (StopsReplay (λ number place. ⊥) (λ line. OnText (H.texts host.old) name.now
-        (λ text. IsRefused text (Line line))) ⊥
+        (λ text. IsNoJournal text (Line line))) ⊥
         (Rose (H.faults host.old) (H.faults host.new) ⊎ Rose (H.source_faults host.old) (H.source_faults host.new)) ⊥) }
     ensures images { H.images host.new ≡ H.images host.old }
     ensures texts { H.texts host.new ≡ H.texts host.old }

@@ -5,7 +5,7 @@ mod cat;
 mod check;
 mod find;
 mod journal;
-mod making;
+mod mkfs;
 #[cfg(test)]
 mod mkfs_tests;
 mod pages;
@@ -22,7 +22,7 @@ mod words;
 
 pub use cat::cat_image;
 pub use check::check_image;
-pub use making::mkfs_image;
+pub use mkfs::mkfs_image;
 pub use replay::replay_image;
 pub use stop::{Stop, tell};
 pub use top::svfs;

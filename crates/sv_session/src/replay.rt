@@ -5,7 +5,7 @@ ghost use Rattle.sv_check.specs.Sound.{Flaw};
 ghost use Rattle.sv_session.specs.declared.stop.Stop.{Stop};
 ghost use Rattle.sv_session.specs.Answer.{OnImage};
 ghost use Rattle.sv_session.specs.Replay.{LeavesListing, Lists, RefusesLine, Replays, StopsReplay};
-ghost use Rattle.sv_session.specs.Stop.{status_of, line_of, Noted};
+ghost use Rattle.sv_session.specs.Stop.{status_of, noted_line, Noted};
 
 use crate::Stop;
 use crate::journal::journal_listing;
@@ -39,7 +39,7 @@ pub fn replay_image<R: Files<File = File>, H: Host, O: Sink>(
         (Rose (H.faults host.old) (H.faults host.new) ⊎ Rose (H.source_faults host.old) (H.source_faults host.new))
         (Rose (O.faults out.old) (O.faults out.new)) stop
         × LeavesListing (OnImage (H.images host.old) image.now) (H.texts host.old) journal.now (O.written out.old) (O.written out.new) stop
-        × Noted (O.written note.old) (O.written note.new) (O.faults note.old) (O.faults note.new) (line_of stop) }
+        × Noted (O.written note.old) (O.written note.new) (O.faults note.old) (O.faults note.new) (noted_line stop) }
     ensures quiet { result ≡ 0 → O.written note.new ≡ O.written note.old }
     ensures images { H.images host.new ≡ H.images host.old }
     ensures texts { H.texts host.new ≡ H.texts host.old }

@@ -1,11 +1,11 @@
 // Why a command ends without having done its work.
-ghost use Rattle.std.specs.Prelude.{◌≡◌, ◌≤◌, [], length};
-ghost use Rattle.sv_session.specs.Stop.{word_of, refusal_of, journal_refusal_of, status_of, line_of, Noted};
+ghost use Rattle.std.specs.Prelude.{◌≡◌, ◌≤◌, []};
+ghost use Rattle.sv_session.specs.Stop.{refusal_of, journal_refusal_of, status_of, noted_line, Noted};
 
 use arrayvec::ArrayString;
 use itoa::Buffer;
 use std::alloc::AllocError;
-use sv_check::{CheckFault, LoadFault, MakeFault};
+use sv_check::{CheckFault, Condition, LoadFault, MakeFault};
 use sv_dev::{HostFault, Sink};
 use sv_journal::{GatherFault, JournalFault};
 
@@ -17,8 +17,8 @@ const LINE_BYTES: usize = 64;
 pub enum Stop {
     /// The words of the command line do not read.
     Words,
-    /// The image is not sound: the condition that fails first, by its number, and where it fails.
-    Refused { number: u8, place: u32 },
+    /// The image is not sound: the condition that fails first, and where it fails.
+    Refused { condition: Condition, place: u32 },
     DeviceFault,
     FileFault,
     WriteFault,
@@ -50,15 +50,15 @@ impl Stop {
 
 // The line that is noted, which needs no memory.
 impl Stop {
-    ghost use Rattle.sv_session.specs.Stop.{line_of};
+    ghost use Rattle.sv_session.specs.Stop.{noted_line};
 
     fn line(&self) -> ArrayString<LINE_BYTES>
-        ensures { result.bytes ≡ line_of self.now }
+        ensures { result.bytes ≡ noted_line self.now }
     {
         let mut line = ArrayString::new();
         match *self {
             Stop::Words => line.push_str("svfs: words not understood\n"),
-            Stop::Refused { number, place } => push_refusal(&mut line, number, place),
+            Stop::Refused { condition, place } => push_refusal(&mut line, condition, place),
             Stop::DeviceFault => line.push_str("svfs: device fault\n"),
             Stop::FileFault => line.push_str("svfs: file fault\n"),
             Stop::WriteFault => line.push_str("svfs: write fault\n"),
@@ -71,15 +71,15 @@ impl Stop {
 }
 
 // The line of a refused image: the condition's number and word, and the place.
-fn push_refusal(line: &mut ArrayString<LINE_BYTES>, number: u8, place: u32)
+fn push_refusal(line: &mut ArrayString<LINE_BYTES>, condition: Condition, place: u32)
     requires { line.old.bytes ≡ [] }
-    ensures { line.new.bytes ≡ refusal_of number place }
+    ensures { line.new.bytes ≡ refusal_of condition place }
 {
     let mut digits = Buffer::new();
     line.push_str("svfs: image refused: ");
-    line.push_str(digits.format(number));
+    line.push_str(digits.format(condition.number()));
     line.push_str(" ");
-    line.push_str(word(number));
+    line.push_str(condition.word());
     line.push_str(" ");
     line.push_str(digits.format(place));
     line.push_str("\n");
@@ -94,32 +94,6 @@ fn push_journal_refusal(line: &mut ArrayString<LINE_BYTES>, at: u32)
     line.push_str("svfs: journal line ");
     line.push_str(digits.format(at));
     line.push_str(" refused\n");
-}
-
-// The word of a condition of a sound image.
-fn word(number: u8) -> &'static str
-    ensures word { result.now ≡ word_of number }
-    ensures short { length result.now ≤ 11 }
-{
-    match number {
-        1 => "Magic",
-        2 => "BlockSize",
-        3 => "Sizes",
-        4 => "Kind",
-        5 => "Size",
-        6 => "Range",
-        7 => "Twice",
-        8 => "PastSize",
-        9 => "Tail",
-        10 => "FreeChain",
-        11 => "Lost",
-        12 => "CachedInode",
-        13 => "Root",
-        14 => "Entry",
-        15 => "Dots",
-        16 => "Links",
-        _ => "",
-    }
 }
 
 impl From<AllocError> for Stop {
@@ -141,7 +115,7 @@ impl From<CheckFault> for Stop {
 
     fn from(fault: CheckFault) -> Self {
         match fault {
-            CheckFault::Refused { number, place } => Stop::Refused { number, place },
+            CheckFault::Refused { condition, place } => Stop::Refused { condition, place },
             CheckFault::Fault => Stop::DeviceFault,
             CheckFault::NoMemory => Stop::NoMemory,
         }
@@ -222,7 +196,7 @@ impl From<JournalFault> for Stop {
 /// Notes the line of a stop, and answers its status. A failed write to `note` changes nothing.
 pub fn tell<O: Sink>(stop: &Stop, note: &mut O) -> u8
     ensures status { result ≡ status_of stop.now }
-    ensures noted { Noted (O.written note.old) (O.written note.new) (O.faults note.old) (O.faults note.new) (line_of stop.now) }
+    ensures noted { Noted (O.written note.old) (O.written note.new) (O.faults note.old) (O.faults note.new) (noted_line stop.now) }
 {
     let _ = note.write(stop.line().as_bytes());
     stop.status()

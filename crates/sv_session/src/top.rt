@@ -3,12 +3,12 @@ ghost use Rattle.std.specs.Prelude.{◌≡◌, ◌≢◌, map, string_bytes};
 ghost use Rattle.sv_dev.specs.Causes.{Rose};
 ghost use Rattle.sv_session.specs.Answer.{Answers};
 ghost use Rattle.sv_session.specs.Command.{Command, Asks};
-ghost use Rattle.sv_session.specs.Stop.{line_of, Noted};
+ghost use Rattle.sv_session.specs.Stop.{noted_line, Noted};
 ghost use Rattle.sv_session.specs.declared.stop.Stop.TheVariants.{Words};
 
 use crate::cat::cat_image;
 use crate::check::check_image;
-use crate::making::mkfs_image;
+use crate::mkfs::mkfs_image;
 use crate::replay::replay_image;
 use crate::stop::{Stop, tell};
 use crate::words::{Request, read_words};
@@ -33,7 +33,7 @@ pub fn svfs<R: Files<File = File> + Threads + Wait, H: Host, W: Watch, O: Sink>(
 ) -> u8
     ensures words { result ≡ 1 → ((command : Command) → Asks (map string_bytes words.now) command → ⊥)
         × (host.new ≡ host.old) × (out.new ≡ out.old)
-        × Noted (O.written note.old) (O.written note.new) (O.faults note.old) (O.faults note.new) (line_of Words) }
+        × Noted (O.written note.old) (O.written note.new) (O.faults note.old) (O.faults note.new) (noted_line Words) }
     ensures answer { result ≢ 1 → (command : Command) × Asks (map string_bytes words.now) command
         × Answers (H.images host.old) (H.images host.new) (H.texts host.old) (Rose (H.disk_faults host.old) (H.disk_faults host.new))
         (Rose (H.faults host.old) (H.faults host.new))

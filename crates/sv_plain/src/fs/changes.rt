@@ -3,7 +3,7 @@ ghost use Rattle.std.specs.Prelude.{◌≡◌, ◌≤◌, IsSome, IsOk, OnOk, On
 ghost use Rattle.std.specs.FinMap as map;
 ghost use Rattle.sv_plain.specs.Names.{promise_of, has_reference};
 ghost use Rattle.sv_plain.specs.Change.{with_reference, without_reference, spent};
-ghost use Rattle.sv_plain.specs.declared.opening.Opening as opening;
+ghost use Rattle.sv_plain.specs.declared.fs.opening.Opening as opening;
 
 use crate::{Fs, HolderCounts, NoMemory, Opening, PairMap};
 use std::alloc::Global;

@@ -7,7 +7,7 @@ ghost use Rattle.sv_plain.specs.Needs.{blocks_added};
 ghost use Rattle.sv_plain.specs.Entered.{with_size};
 ghost use Rattle.sv_plain.specs.Step.{is_free};
 
-use crate::page_need::page_need;
+use crate::node::page_need::page_need;
 use crate::{Fs, NoMemory, Node};
 use std::alloc::Global;
 use sv_form::{Bytes, Kind};

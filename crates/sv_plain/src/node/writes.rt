@@ -6,7 +6,7 @@ ghost use Rattle.sv_form.specs.Node.{block_set, numbers_per};
 ghost use Rattle.sv_form.specs.NodeChanges.{page_after, put};
 ghost use Rattle.sv_plain.specs.Written.{present, all_present, with_pages_from, without_page, without_pages};
 
-use crate::blocks::{missing_blocks, remove_blocks};
+use crate::node::blocks::{missing_blocks, remove_blocks};
 use crate::{NoMemory, Node, PairSet};
 use std::alloc::Global;
 use sv_form::Bytes;

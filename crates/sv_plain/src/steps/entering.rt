@@ -2,7 +2,7 @@
 ghost use Rattle.std.specs.Prelude.{◌≡◌, ◌<◌, ◌≤◌, ◌&&◌, nat_le, unwrap_or, option_map, IsSome, length, OnOk, OnErr, IfOk, IfErr};
 ghost use Rattle.std.specs.FinMap as map;
 ghost use Rattle.sv_form.specs.Node.{entry_count};
-ghost use Rattle.sv_plain.specs.declared.op.Op.TheVariants as op;
+ghost use Rattle.sv_plain.specs.declared.history.op.Op.TheVariants as op;
 ghost use Rattle.sv_plain.specs.Fs.{changed};
 ghost use Rattle.sv_plain.specs.Names.{empty_place, has_reference, is_pending, promise_of};
 ghost use Rattle.sv_plain.specs.Change.{with_entry};
@@ -11,7 +11,7 @@ ghost use Rattle.sv_plain.specs.Step.{enter_replies};
 ghost use Rattle.sv_plain.specs.Taken.{IsTaken, IsRefused};
 ghost use Rattle.sv_plain.specs.Whole.{IsWhole};
 
-use crate::directory_bytes::entry_bytes;
+use crate::node::directory_bytes::entry_bytes;
 use crate::{Fs, Illegal, NoMemory, Node, Reply};
 use std::alloc::Global;
 use sv_form::{Bytes, Name};

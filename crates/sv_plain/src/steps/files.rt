@@ -1,6 +1,6 @@
 // Open files: opening, sharing, seeking and closing.
 ghost use Rattle.std.specs.Prelude.{◌≡◌, ◌+◌, ◌==◌, not, true, OnOk, OnErr, IfErr};
-ghost use Rattle.sv_plain.specs.declared.op.Op.TheVariants as op;
+ghost use Rattle.sv_plain.specs.declared.history.op.Op.TheVariants as op;
 ghost use Rattle.sv_plain.specs.Change.{changed_file, with_offset};
 ghost use Rattle.sv_plain.specs.Taken.{IsTaken, IsRefused};
 ghost use Rattle.sv_plain.specs.Whole.{IsWhole};

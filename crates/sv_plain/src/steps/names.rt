@@ -3,7 +3,7 @@ ghost use Rattle.std.specs.Prelude.{◌≡◌, ◌&&◌, not, true, None, IsSome
 ghost use Rattle.sv_plain.specs.Fs.{changed, page_of, with_page, is_full_for};
 ghost use Rattle.std.specs.FinMap as map;
 ghost use Rattle.sv_plain.specs.Change.{with_links, with_reference, without_entry};
-ghost use Rattle.sv_plain.specs.declared.op.Op.TheVariants as op;
+ghost use Rattle.sv_plain.specs.declared.history.op.Op.TheVariants as op;
 ghost use Rattle.sv_plain.specs.Names.{is_open_to_names, is_directory, child, is_missing};
 ghost use Rattle.sv_plain.specs.Step.{look_replies, is_dots, is_in_use, unlink_allowed, unlink_replies, rmdir_replies};
 ghost use Rattle.sv_plain.specs.Taken.{IsTaken, IsRefused};

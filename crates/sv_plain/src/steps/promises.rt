@@ -1,9 +1,9 @@
-// Promises, and what nothing comes of.
+// Promises of free blocks.
 ghost use Rattle.std.specs.Prelude.{◌≡◌, ◌+◌, nat_lt, OnOk, OnErr, IfErr};
 ghost use Rattle.std.specs.FinMap as map;
-ghost use Rattle.sv_plain.specs.declared.op.Op.TheVariants as op;
+ghost use Rattle.sv_plain.specs.declared.history.op.Op.TheVariants as op;
 ghost use Rattle.sv_plain.specs.Names.{some_and};
-ghost use Rattle.sv_plain.specs.Step.{writes, promise_allowed, is_too_big, promise_replies, forgo_replies, sync_replies};
+ghost use Rattle.sv_plain.specs.Step.{writes, promise_allowed, is_too_big, promise_replies, forgo_replies};
 ghost use Rattle.sv_plain.specs.Taken.{IsTaken, IsRefused};
 ghost use Rattle.sv_plain.specs.Whole.{IsWhole};
 
@@ -112,18 +112,6 @@ impl Fs {
                 self.forgo(process);
                 Ok(())
             }
-            _ => Err(Illegal::Reply),
-        }
-    }
-
-    // Sync: nothing changes.
-    pub(crate) fn step_sync(&mut self, process: u8, reply: &Reply) -> Result<(), Illegal>
-        ensures taken { OnOk result (IsTaken self.old process op.Sync reply.now self.new) }
-        ensures refused { IfErr result (IsRefused self.old process op.Sync reply.now) }
-        ensures kept { OnErr result (self.new ≡ self.old) }
-    {
-        match reply {
-            Reply::Done | Reply::Fault => Ok(()),
             _ => Err(Illegal::Reply),
         }
     }

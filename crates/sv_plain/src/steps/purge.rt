@@ -1,6 +1,6 @@
 // What is removed at the end, when nothing is in use.
 ghost use Rattle.std.specs.Prelude.{◌≡◌, true, OnOk, OnErr, IfErr};
-ghost use Rattle.sv_plain.specs.declared.op.Op.TheVariants as op;
+ghost use Rattle.sv_plain.specs.declared.history.op.Op.TheVariants as op;
 ghost use Rattle.sv_plain.specs.Names.{is_idle};
 ghost use Rattle.sv_plain.specs.Step.{purge_replies};
 ghost use Rattle.sv_plain.specs.Taken.{IsTaken, IsRefused};

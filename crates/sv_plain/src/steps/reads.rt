@@ -1,7 +1,7 @@
 // Reading files.
 ghost use Rattle.std.specs.Prelude.{◌≡◌, OnOk, OnErr, IfErr};
-ghost use Rattle.sv_plain.specs.declared.op.Op.TheVariants as op;
-ghost use Rattle.sv_plain.specs.declared.reply.Reply.TheVariants as reply;
+ghost use Rattle.sv_plain.specs.declared.history.op.Op.TheVariants as op;
+ghost use Rattle.sv_plain.specs.declared.history.reply.Reply.TheVariants as reply;
 ghost use Rattle.sv_plain.specs.Step.{read_allowed, read_replies};
 ghost use Rattle.sv_plain.specs.Taken.{IsTaken, IsRefused};
 ghost use Rattle.sv_plain.specs.Whole.{IsWhole};

@@ -1,7 +1,7 @@
 // What goes with the last that refers to it.
 ghost use Rattle.std.specs.Prelude.{◌≡◌, ◌≤◌, true, not, Some, OnOk, OnErr, IfErr};
 ghost use Rattle.std.specs.FinMap as map;
-ghost use Rattle.sv_plain.specs.declared.op.Op.TheVariants as op;
+ghost use Rattle.sv_plain.specs.declared.history.op.Op.TheVariants as op;
 ghost use Rattle.sv_plain.specs.Fs.{is_referenced};
 ghost use Rattle.sv_plain.specs.Names.{has_reference};
 ghost use Rattle.sv_plain.specs.Change.{without_reference, without_share};

@@ -1,7 +1,7 @@
 // What an inode says.
 ghost use Rattle.std.specs.Prelude.{◌≡◌, OnOk, OnErr, IfErr};
 ghost use Rattle.sv_form.specs.declared.kind.Kind.{Kind};
-ghost use Rattle.sv_plain.specs.declared.op.Op.TheVariants as op;
+ghost use Rattle.sv_plain.specs.declared.history.op.Op.TheVariants as op;
 ghost use Rattle.sv_plain.specs.Names.{is_opened, same_kind};
 ghost use Rattle.sv_plain.specs.Step.{stat_allowed, stat_replies};
 ghost use Rattle.sv_plain.specs.Taken.{IsTaken, IsRefused};

@@ -3,15 +3,15 @@ ghost use Rattle.std.specs.Prelude.{◌≡◌, ◌≤◌, ◌+◌, ◌-◌, ◌*
 ghost use Rattle.std.specs.List.{range_with_len};
 ghost use Rattle.std.specs.FinMap as map;
 ghost use Rattle.sv_form.specs.Node.{blocks_at, numbers_per};
-ghost use Rattle.sv_plain.specs.declared.opening.Opening.{Opening};
-ghost use Rattle.sv_plain.specs.declared.op.Op.TheVariants as op;
+ghost use Rattle.sv_plain.specs.declared.fs.opening.Opening.{Opening};
+ghost use Rattle.sv_plain.specs.declared.history.op.Op.TheVariants as op;
 ghost use Rattle.sv_plain.specs.Missing.{node_blocks, is_new, added};
 ghost use Rattle.sv_form.specs.NodeChanges.{touched};
 ghost use Rattle.sv_plain.specs.Needs.{write_need};
 ghost use Rattle.sv_plain.specs.Step.{write_allowed, ends_page, write_replies, written};
 ghost use Rattle.sv_plain.specs.Taken.{IsTaken, IsRefused};
 
-use crate::blocks::{PageBlocks, is_among};
+use crate::node::blocks::{PageBlocks, is_among};
 use crate::steps::files::writes;
 use crate::{Fs, Illegal, NoMemory, Reply};
 use std::alloc::Global;

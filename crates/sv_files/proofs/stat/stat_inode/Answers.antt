@@ -3,7 +3,7 @@ use Rattle.sv_form.specs.Node.{Node}
 use Rattle.sv_store.specs.Held.{Origin}
 use Rattle.sv_inode.specs.StandsFor.{IsDescribed}
 use Rattle.sv_turn.specs.Passes.{pass_view}
-use Rattle.sv_plain.specs.declared.op.Op.TheVariants.{Stat}
+use Rattle.sv_plain.specs.declared.history.op.Op.TheVariants.{Stat}
 use Rattle.sv_files.specs.View.{lock_of, seen_by}
 use Rattle.sv_files.specs.FileRule.{StandsAs}
 use Rattle.sv_files.specs.Adding.{IsStill, KeepsAll}

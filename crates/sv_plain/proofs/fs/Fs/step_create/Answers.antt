@@ -1,5 +1,5 @@
 use Rattle.std.proofs.Common.{◌≡◌, ◌&&◌, true, not}
-use Rattle.sv_plain.specs.declared.reply.Reply.TheVariants.{Found, Made}
+use Rattle.sv_plain.specs.declared.history.reply.Reply.TheVariants.{Found, Made}
 use Rattle.sv_plain.specs.Fs.{Fs}
 use Rattle.sv_plain.specs.Names.{is_table_full}
 use Rattle.sv_plain.specs.Step.{create_replies, has_inode, is_free}

@@ -1,5 +1,5 @@
 use Rattle.std.proofs.Common.{◌≡◌, true}
-use Rattle.sv_plain.specs.declared.reply.Reply.TheVariants.{Found}
+use Rattle.sv_plain.specs.declared.history.reply.Reply.TheVariants.{Found}
 use Rattle.sv_plain.specs.Step.{look_replies}
 use Rattle.sv_plain.proofs.StepBounds.{child-within}
 use Rattle.sv_plain.proofs.fs.Fs.step_look.Goals as goal

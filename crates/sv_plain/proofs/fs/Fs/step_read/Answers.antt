@@ -1,6 +1,6 @@
 use Rattle.std.proofs.Common.{◌≡◌, ◌≤◌, ◌+◌, true, length, Some, sym, ap, arith}
 use Rattle.std.specs.FinMap as map
-use Rattle.sv_plain.specs.declared.reply.Reply.TheVariants.{Got}
+use Rattle.sv_plain.specs.declared.history.reply.Reply.TheVariants.{Got}
 use Rattle.sv_plain.specs.Step.{read_replies}
 use Rattle.sv_plain.proofs.SameBytes.{read-fits}
 use Rattle.sv_plain.proofs.fs.Fs.step_read.Goals as goal

@@ -1,7 +1,7 @@
 use Rattle.std.proofs.Common.{◌≡◌, ◌≢◌, ◌≤◌, ℕ, ◌-◌, ◌==◌, ◌&&◌, ◌∙◌, true, not, IsSome, sym, ap, subst, arith}
 use Rattle.std.proofs.lemmas.Bool.{false≢true}
 use Rattle.std.specs.FinMap as map
-use Rattle.sv_plain.specs.declared.reply.Reply.TheVariants.{Removed}
+use Rattle.sv_plain.specs.declared.history.reply.Reply.TheVariants.{Removed}
 use Rattle.sv_plain.specs.Fs.{Fs, changed, page_of, with_page, with_page_of, is_full_for}
 use Rattle.sv_plain.specs.Names.{is_directory, has_reference, links_of}
 use Rattle.sv_plain.specs.Change.{with_links}

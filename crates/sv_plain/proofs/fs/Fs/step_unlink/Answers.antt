@@ -1,7 +1,7 @@
 use Rattle.std.proofs.Common.{◌≡◌, ◌≢◌, ◌-◌, ◌==◌, ◌&&◌, ◌∙◌, true, not, IsSome, sym, ap, subst}
 use Rattle.std.proofs.lemmas.Bool.{false≢true}
 use Rattle.std.specs.FinMap as map
-use Rattle.sv_plain.specs.declared.reply.Reply.TheVariants.{Removed}
+use Rattle.sv_plain.specs.declared.history.reply.Reply.TheVariants.{Removed}
 use Rattle.sv_plain.specs.Fs.{Fs, page_of, is_full_for}
 use Rattle.sv_plain.specs.Names.{is_directory, has_reference, links_of}
 use Rattle.sv_plain.specs.Change.{with_links}

@@ -1,6 +1,6 @@
 use Rattle.std.proofs.Common.{sym, ap, ◌∙◌}
 use Rattle.sv_form.specs.Node.{Node}
-use Rattle.sv_plain.specs.declared.opening.Opening.{Opening}
+use Rattle.sv_plain.specs.declared.fs.opening.Opening.{Opening}
 use Rattle.sv_plain.specs.Fs.{Fs}
 use Rattle.sv_form.specs.NodeChanges.{touched}
 use Rattle.sv_plain.specs.NeedsWithin.{within}

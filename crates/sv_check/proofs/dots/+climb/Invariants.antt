@@ -1,4 +1,0 @@
-use Rattle.sv_check.proofs.dots.+climb.Given as goal
-
-abbrev pub decreases-climb : goal.decreases-climb
-decreases-climb l = l.steps

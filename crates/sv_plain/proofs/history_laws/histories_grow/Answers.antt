@@ -1,5 +1,0 @@
-use Rattle.sv_plain.proofs.HistorySteps.{leads-further, own-further}
-use Rattle.sv_plain.proofs.history_laws.histories_grow.Goals as goal
-
-pub returns : goal.returns
-returns c = record { leads = λ h e a b d is step. leads-further h e a b d is step; own = λ h e p. own-further h e p }

@@ -1,5 +1,0 @@
-use Rattle.sv_plain.proofs.HistorySteps.{leads-sizes}
-use Rattle.sv_plain.proofs.history_laws.histories_keep_sizes.Goals as goal
-
-pub returns : goal.returns
-returns c = λ h a b is. leads-sizes h a b is

@@ -1,5 +1,0 @@
-use Rattle.sv_plain.proofs.ShareLaws.{nothing-shared}
-use Rattle.sv_plain.proofs.share_laws.unshared_is_unreferenced.Goals as goal
-
-pub returns : goal.returns
-returns c = λ fs w i. nothing-shared fs w i
