@@ -10,7 +10,7 @@ use Rattle.sv_dir.specs.declared.path.BadPath.{BadPath}
 use Rattle.sv_dir.specs.declared.path.BadPath.TheVariants as bad
 use Rattle.sv_dir.specs.declared.path.PathWords.{PathWords}
 use Rattle.sv_dir.proofs.PathLemmas.{pieces-nil}
-use Rattle.sv_dir.specs.Path.{FirstBad, IsNoPath, IsSplit, has_no_zero, is_name, piece_at, pieces}
+use Rattle.sv_dir.specs.Path.{FirstBad, IsRefused, IsSplit, has_no_zero, is_name, piece_at, pieces}
 
 nonzero : (b : ℕ) → b ≢ 0 → not (b == 0) ≡ true
 nonzero b ne = elim (eqb_tells b 0) [ inl same ↦ absurd (ne same.1) | inr other ↦ ap not other.0 ]
@@ -51,7 +51,7 @@ first_fails piece ps fails = ap (λ (b : Bool). b && list_all is_name ps) fails
 pub split_passes : (path : List ℕ) (words : PathWords) → IsSplit path words → list_all is_name (pieces path) ≡ true
 split_passes path words h = names_pass (pieces path) h.each
 
-pub refused_fails : (path : List ℕ) (why : BadPath) → IsNoPath path why → (path ≡ [] → ⊥) → list_all is_name (pieces path) ≡ false
+pub refused_fails : (path : List ℕ) (why : BadPath) → IsRefused path why → (path ≡ [] → ⊥) → list_all is_name (pieces path) ≡ false
 refused_fails path bad.Empty h some = absurd (some h.0)
 refused_fails path (bad.TooLong at) h some = fails_at (pieces path) at h.0.0.within (too_long _ h.0.1)
 refused_fails path (bad.BadByte at) h some = fails_at (pieces path) at h.0.0.within (bad_byte _ h.0.2)
@@ -77,7 +77,7 @@ same_place path a b no_a no_b ha hb = omega (arith, not_named path b no_b a ha h
 no_piece : (path : List ℕ) → path ≡ [] → (at : ℕ) → FirstBad path at → ⊥
 no_piece path h at bad_here = omega (arith, subst (λ (p : List ℕ). at < length (pieces p)) h bad_here.within, ap length pieces-nil)
 
-pub one_reason : (path : List ℕ) (why other : BadPath) → IsNoPath path why → IsNoPath path other → why ≡ other
+pub one_reason : (path : List ℕ) (why other : BadPath) → IsRefused path why → IsRefused path other → why ≡ other
 one_reason path bad.Empty bad.Empty h g = refl
 one_reason path bad.Empty (bad.TooLong b) h g = absurd (no_piece path h.0 b g.0.0)
 one_reason path bad.Empty (bad.BadByte b) h g = absurd (no_piece path h.0 b g.0.0)

@@ -74,15 +74,15 @@ abbrev pub name_count : List ℕ → ℕ
 name_count path = if list_all is_name (pieces path) then length (pieces path) else 0
 
 -- the path is refused for this reason, and not for want of memory
-abbrev pub IsNoPath : List ℕ → BadPath → Type 0
-IsNoPath path why = Refuses path why × (why ≢ bad.NoMemory)
+abbrev pub IsRefused : List ℕ → BadPath → Type 0
+IsRefused path why = Refuses path why × (why ≢ bad.NoMemory)
 
 abbrev pub IsSplitOneWay : Type 0
 IsSplitOneWay = (path : List ℕ) (words others : PathWords) → IsSplit path words → IsSplit path others → (words.names ≡ others.names)
     × (words.absolute ≡ others.absolute)
 
 abbrev pub IsRefusedOneWay : Type 0
-IsRefusedOneWay = (path : List ℕ) (why other : BadPath) → IsNoPath path why → IsNoPath path other → why ≡ other
+IsRefusedOneWay = (path : List ℕ) (why other : BadPath) → IsRefused path why → IsRefused path other → why ≡ other
 
 abbrev pub IsSplitOrRefused : Type 0
-IsSplitOrRefused = (path : List ℕ) (words : PathWords) (why : BadPath) → IsSplit path words → IsNoPath path why → ⊥
+IsSplitOrRefused = (path : List ℕ) (words : PathWords) (why : BadPath) → IsSplit path words → IsRefused path why → ⊥

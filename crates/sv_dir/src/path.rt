@@ -3,7 +3,7 @@ ghost use Rattle.std.specs.Prelude.{◌≡◌, ◌≢◌, ◌<◌, ◌≤◌, �
 ghost use Rattle.sv_form.specs.Name.{IsName};
 ghost use Rattle.sv_dir.specs.declared.path.BadPath.{BadPath};
 ghost use Rattle.sv_dir.specs.declared.path.PathWords.{PathWords};
-ghost use Rattle.sv_dir.specs.Path.{IsFirstPiece, IsNoPath, IsRefusedOneWay, IsSplit, IsSplitOneWay, IsSplitOrRefused, Refuses};
+ghost use Rattle.sv_dir.specs.Path.{IsFirstPiece, IsRefused, IsRefusedOneWay, IsSplit, IsSplitOneWay, IsSplitOrRefused, Refuses};
 ghost use Rattle.sv_dir.specs.Path.{RefusesName, RefusesPiece, has_no_zero, is_name, name_count, pieces};
 
 use std::alloc::{AllocError, AllocFailed, Global};
@@ -94,7 +94,7 @@ pub fn count_names(path: &[u8]) -> u32
     requires { length path.now ≤ 16777216 }
     ensures value { result ≡ name_count path.now }
     ensures split { (words : PathWords) → IsSplit path.now words → result ≡ length words.names }
-    ensures refused { (why : BadPath) → IsNoPath path.now why → result ≡ 0 }
+    ensures refused { (why : BadPath) → IsRefused path.now why → result ≡ 0 }
 {
     let mut count = 0;
     let mut rest = path;

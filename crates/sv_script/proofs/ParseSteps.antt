@@ -6,7 +6,7 @@ use Rattle.sv_script.specs.declared.reading.Reading.{Reading}
 use Rattle.sv_script.specs.declared.fault.ScriptFault.{ScriptFault}
 use Rattle.sv_script.specs.declared.fault.ScriptFault.TheVariants as faults
 use Rattle.sv_script.specs.Cut.{lines_of}
-use Rattle.sv_script.specs.Reading.{FirstFault, IsNoScript, IsScriptOf, HaveNoFault, fault_after, fault_at, script_of}
+use Rattle.sv_script.specs.Reading.{FirstFault, IsRefused, IsScriptOf, IsSound, fault_after, fault_at, script_of}
 use Rattle.sv_script.specs.Progress.{BeginsWithLine, IsAt, IsRead}
 use Rattle.sv_script.proofs.ScriptSteps.{fault_at-append}
 
@@ -54,7 +54,7 @@ first_fault text rest line after r fault at begins faulty =
     }
 
 pub refused_at : (text rest line after : List ℕ) (r : Reading) (fault : ScriptFault) → length text ≤ 16777216 → IsAt text rest r → BeginsWithLine rest line after
-    → (fault ≡ faults.NoMemory) ⊎ (fault_after (take r.number (lines_of text)) line ≡ Some fault) → IsNoScript text (r.number + 1) fault
+    → (fault ≡ faults.NoMemory) ⊎ (fault_after (take r.number (lines_of text)) line ≡ Some fault) → IsRefused text (r.number + 1) fault
 refused_at text rest line after r fault most at begins cause =
     elim cause [
       | inl memory ↦ inl memory
@@ -73,6 +73,6 @@ all_read text rest r script most at end is =
     let whole : take r.number (lines_of text) ≡ lines_of text = take_all r.number (lines_of text) past in
     record {
       most = most;
-      sound = subst (λ (ls : List (List ℕ)). HaveNoFault ls) whole at.read.sound;
+      sound = subst (λ (ls : List (List ℕ)). IsSound ls) whole at.read.sound;
       lines = is ∙ at.read.script ∙ ap script_of whole;
     }

@@ -12,7 +12,7 @@ use Rattle.sv_script.specs.declared.fault.ScriptFault.{ScriptFault}
 use Rattle.sv_script.specs.declared.fault.ScriptFault.TheVariants as faults
 use Rattle.sv_script.specs.Grammar.{IsCall}
 use Rattle.sv_script.specs.Script.{IsScript, asked, asked_sum, component_sum, components}
-use Rattle.sv_script.specs.Reading.{HaveNoFault, fault_after, fault_at, fault_with, limit_fault, limit_of, line_with, read_line, script_from, script_of}
+use Rattle.sv_script.specs.Reading.{IsSound, fault_after, fault_at, fault_with, limit_fault, limit_of, line_with, read_line, script_from, script_of}
 use Rattle.sv_script.specs.Progress.{Adds, IsRead, PassesOver, ReadsBehind}
 
 script_from-push : (number : ℕ) (lines : List (List ℕ)) (line : List ℕ) → script_from number (lines ++ line ∷ []) ≡ script_from number lines ++ line_with (number + length lines) (read_line line)
@@ -41,8 +41,8 @@ unfolding fault_at
 fault_at-end before more line =
     ap (λ (b : List (List ℕ)). fault_after b (get_or (before ++ line ∷ more) (length before) [])) (take_at before (line ∷ more) (length before) refl) ∙ ap (fault_after before) (get_or_at before line more [] (length before) refl)
 
-pub HaveNoFault-push : (before : List (List ℕ)) (line : List ℕ) → HaveNoFault before → fault_after before line ≡ None → HaveNoFault (before ++ line ∷ [])
-HaveNoFault-push before line sound none place lt =
+pub IsSound-push : (before : List (List ℕ)) (line : List ℕ) → IsSound before → fault_after before line ≡ None → IsSound (before ++ line ∷ [])
+IsSound-push before line sound none place lt =
     let size = length_push before line in
     elim (cases_lt place (length before)) [
       | inl inside ↦ fault_at-append before (line ∷ []) place inside ∙ sound place inside
@@ -98,7 +98,7 @@ read_passed before line old new h says step =
       components = step.components ∙ h.components ∙ ap component_sum items;
       asked = step.asked ∙ h.asked ∙ ap asked_sum items;
       within = step.within;
-      sound = HaveNoFault-push before line h.sound none;
+      sound = IsSound-push before line h.sound none;
       limits = subst (λ (ls : List Line). IsScript ls) items h.limits;
       last = subst (λ (ls : List Line). All (λ l. l.number ≤ new.number) ls) items (All-weaker (λ l. l.number ≤ old.number) (λ l. l.number ≤ new.number) (λ l le. omega (arith, le, step.number)) old.lines.items h.last);
     }
@@ -127,7 +127,7 @@ read_added before line old new call h says is step =
       components = step.names ∙ ap (λ (n : ℕ). n + components call) h.components ∙ sym (sum_by_push (λ l. components l.call) old.lines.items line_new) ∙ ap component_sum (sym step.script);
       asked = step.bytes ∙ ap (λ (n : ℕ). n + asked call) h.asked ∙ sym (sum_by_push (λ l. asked l.call) old.lines.items line_new) ∙ ap asked_sum (sym step.script);
       within = step.within;
-      sound = HaveNoFault-push before line h.sound none;
+      sound = IsSound-push before line h.sound none;
       limits = subst (λ (ls : List Line). IsScript ls) (sym step.script) script;
       last = subst (λ (ls : List Line). All (λ l. l.number ≤ new.number) ls) (sym step.script)
           (All-push (λ l. l.number ≤ new.number) old.lines.items line_new (All-weaker (λ l. l.number ≤ old.number) (λ l. l.number ≤ new.number) (λ l le. omega (arith, le, step.number)) old.lines.items h.last) (omega (arith, step.number)));

@@ -5,7 +5,7 @@ use Rattle.sv_script.specs.declared.line.Line.{Line}
 use Rattle.sv_script.specs.declared.fault.ScriptFault.{ScriptFault}
 use Rattle.sv_script.specs.declared.fault.ScriptFault.TheVariants as faults
 use Rattle.sv_script.specs.Cut.{lines_of}
-use Rattle.sv_script.specs.Reading.{FirstFault, IsFaulty, IsLarge, IsNoScript, IsScriptOf, fault_at}
+use Rattle.sv_script.specs.Reading.{FirstFault, IsFaulty, IsLarge, IsRefused, IsScriptOf, fault_at}
 
 pub one_script : (text : List ℕ) (script other : List Line) → IsScriptOf text script → IsScriptOf text other → script ≡ other
 one_script text script other a b = a.lines ∙ sym b.lines
@@ -31,7 +31,7 @@ one_cause text m n f g (inl a) (inr b) = absurd (omega (arith, a.large, b.most))
 one_cause text m n f g (inr a) (inl b) = absurd (omega (arith, b.large, a.most))
 one_cause text m n f g (inr a) (inr b) = same_faulty text m n f g a b
 
-pub one_refusal : (text : List ℕ) (m n : ℕ) (f g : ScriptFault) → IsNoScript text m f → IsNoScript text n g → f ≢ faults.NoMemory → g ≢ faults.NoMemory → (m ≡ n) × (f ≡ g)
+pub one_refusal : (text : List ℕ) (m n : ℕ) (f g : ScriptFault) → IsRefused text m f → IsRefused text n g → f ≢ faults.NoMemory → g ≢ faults.NoMemory → (m ≡ n) × (f ≡ g)
 one_refusal text m n f g a b has_f has_g =
     elim a [
       | inl memory ↦ absurd (has_f memory)
@@ -41,7 +41,7 @@ one_refusal text m n f g a b has_f has_g =
       ]
     ]
 
-pub not_both : (text : List ℕ) (script : List Line) (n : ℕ) (f : ScriptFault) → IsScriptOf text script → IsNoScript text n f → f ≢ faults.NoMemory → ⊥
+pub not_both : (text : List ℕ) (script : List Line) (n : ℕ) (f : ScriptFault) → IsScriptOf text script → IsRefused text n f → f ≢ faults.NoMemory → ⊥
 not_both text script n f read refused has =
     elim refused [
       | inl memory ↦ has memory

@@ -6,7 +6,7 @@ use Rattle.sv_script.specs.declared.fault.ScriptFault.{ScriptFault}
 use Rattle.sv_script.specs.declared.fault.ScriptFault.TheVariants as faults
 use Rattle.sv_script.specs.Cut.{lines_of, IsPart}
 use Rattle.sv_script.specs.Script.{IsScript, asked, asked_sum, component_sum, components}
-use Rattle.sv_script.specs.Reading.{HaveNoFault, fault_after, script_of}
+use Rattle.sv_script.specs.Reading.{IsSound, fault_after, script_of}
 
 -- the counters are in their limits
 pub record IsWithin (r : Reading) : Type 0 where
@@ -21,7 +21,7 @@ pub record IsRead (lines : List (List ℕ)) (r : Reading) : Type 0 where
   pub components : r.components ≡ component_sum r.lines.items
   pub asked : r.asked ≡ asked_sum r.lines.items
   pub within : IsWithin r
-  pub sound : HaveNoFault lines
+  pub sound : IsSound lines
   pub limits : IsScript r.lines.items
   pub last : All (λ l. l.number ≤ r.number) r.lines.items
 

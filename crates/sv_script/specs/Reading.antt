@@ -56,8 +56,8 @@ unfoldable pub fault_at : List (List ℕ) → ℕ → Option ScriptFault
 fault_at lines place = fault_after (take place lines) (slice_index_or lines place [])
 
 -- no line is at fault
-abbrev pub HaveNoFault : List (List ℕ) → Type 0
-HaveNoFault lines = (place : ℕ) → place < length lines → fault_at lines place ≡ None
+abbrev pub IsSound : List (List ℕ) → Type 0
+IsSound lines = (place : ℕ) → place < length lines → fault_at lines place ≡ None
 
 -- the line at that place, from 0, is the first at fault
 pub record FirstFault (lines : List (List ℕ)) (place : ℕ) (fault : ScriptFault) : Type 0 where
@@ -68,7 +68,7 @@ pub record FirstFault (lines : List (List ℕ)) (place : ℕ) (fault : ScriptFau
 -- a text is a script: no line is at fault, and these are its calls
 pub record IsScriptOf (text : List ℕ) (script : List Line) : Type 0 where
   pub most : length text ≤ 16777216
-  pub sound : HaveNoFault (lines_of text)
+  pub sound : IsSound (lines_of text)
   pub lines : script ≡ script_of (lines_of text)
 
 -- a text of too many bytes is at fault at line 0
@@ -84,8 +84,8 @@ pub record IsFaulty (text : List ℕ) (number : ℕ) (fault : ScriptFault) : Typ
   pub first : FirstFault (lines_of text) (number - 1) fault
 
 -- why a text is no script; want of memory is tied to nothing
-abbrev pub IsNoScript : List ℕ → ℕ → ScriptFault → Type 0
-IsNoScript text number fault = (fault ≡ faults.NoMemory) ⊎ (IsLarge text number fault ⊎ IsFaulty text number fault)
+abbrev pub IsRefused : List ℕ → ℕ → ScriptFault → Type 0
+IsRefused text number fault = (fault ≡ faults.NoMemory) ⊎ (IsLarge text number fault ⊎ IsFaulty text number fault)
 
 -- a text is a script in one way
 abbrev pub IsReadOneWay : Type 0
@@ -93,10 +93,10 @@ IsReadOneWay = (text : List ℕ) (script other : List Line) → IsScriptOf text 
 
 -- memory aside, a text is refused at one line for one fault
 abbrev pub IsRefusedOneWay : Type 0
-IsRefusedOneWay = (text : List ℕ) (m n : ℕ) (f g : ScriptFault) → IsNoScript text m f → IsNoScript text n g → f ≢ faults.NoMemory
+IsRefusedOneWay = (text : List ℕ) (m n : ℕ) (f g : ScriptFault) → IsRefused text m f → IsRefused text n g → f ≢ faults.NoMemory
     → g ≢ faults.NoMemory → (m ≡ n) × (f ≡ g)
 
 -- memory aside, no script is refused
 abbrev pub IsReadOrRefused : Type 0
-IsReadOrRefused = (text : List ℕ) (script : List Line) (n : ℕ) (f : ScriptFault) → IsScriptOf text script → IsNoScript text n f
+IsReadOrRefused = (text : List ℕ) (script : List Line) (n : ℕ) (f : ScriptFault) → IsScriptOf text script → IsRefused text n f
     → f ≢ faults.NoMemory → ⊥

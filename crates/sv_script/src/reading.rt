@@ -3,7 +3,7 @@ ghost use Rattle.std.specs.Prelude.{◌≡◌, ◌≤◌, ◌<◌, ◌+◌, ℕ,
 ghost use Rattle.sv_script.specs.Cut.{IsPart, lines_of};
 ghost use Rattle.sv_script.specs.Grammar.{IsCall};
 ghost use Rattle.sv_script.specs.Progress.{Adds, BeginsWithLine, IsRead, IsWithin, PassesOver, ReadsBehind};
-ghost use Rattle.sv_script.specs.Reading.{IsReadOneWay, IsReadOrRefused, IsNoScript, IsRefusedOneWay, IsScriptOf, limit_of};
+ghost use Rattle.sv_script.specs.Reading.{IsReadOneWay, IsReadOrRefused, IsRefused, IsRefusedOneWay, IsScriptOf, limit_of};
 ghost use Rattle.sv_script.specs.Script.{IsScript, asked, components};
 
 use crate::call::Call;
@@ -27,7 +27,7 @@ pub const ASKED_MAX: u64 = 4194304;
 
 /// Reads a script whole. A fault comes with the number of its line, from 1, or 0 for a text that is too long.
 pub fn parse(alloc: Global, text: &[u8]) -> Result<Script, (u32, ScriptFault)>
-    ensures { MatchResult result (IsScriptOf text.now) (λ at. IsNoScript text.now at.0 at.1) }
+    ensures { MatchResult result (IsScriptOf text.now) (λ at. IsRefused text.now at.0 at.1) }
 {
     if text.len() > TEXT_MAX {
         return Err((0, ScriptFault::Volume));

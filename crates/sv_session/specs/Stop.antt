@@ -1,5 +1,5 @@
 -- Why a command ends without having done its work: the status, and the line that is noted.
-use Rattle.std.specs.Prelude.{◌≡◌, ◌⊎◌, ◌≤◌, ◌==◌, ℕ, List, [], ◌++◌, length, take, Option, codes, decimal, if◌then◌else◌}
+use Rattle.std.specs.Prelude.{◌≡◌, ◌⊎◌, ◌≤◌, ℕ, List, [], ◌++◌, length, take, Option, codes, decimal}
 use Rattle.sv_dev.specs.Causes.{Rose}
 use Rattle.sv_dev.specs.Told.{grown}
 use Rattle.sv_dev.specs.declared.fault.HostFault.{HostFault}
