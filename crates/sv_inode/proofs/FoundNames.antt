@@ -349,6 +349,24 @@ place-last block node n size none =
     size ∙ sym (ap (λ q. unwrap_or q (entry_count node))
     (none-first (is_at block node None) (entry_count node) (λ k low. none k (omega (arith, low, size)))))
 
+-- it is no later than the end
+pub place-most : (block : ℕ) (node : Node) → entry_place block node ≤ entry_count node
+unfolding empty_place
+place-most block node = by (nat_lt j (length (range_with_len 0 n))) refl
+  where
+    n : ℕ
+    n = entry_count node
+
+    j : ℕ
+    j = position_or_len (is_at block node None) (range_with_len 0 n)
+
+    yes : (a b : ℕ) → nat_lt a b ≡ true → a < b
+    yes a b h = grind (nat_tests, arith)
+
+    by : (t : Bool) → nat_lt j (length (range_with_len 0 n)) ≡ t → unwrap_or (cond t (Some j) None) n ≤ n
+    by true e = omega (arith, yes j (length (range_with_len 0 n)) e, length-range_with_len 0 n)
+    by false e = omega arith
+
 pub looked : (block : ℕ) (node : Node) (name : List ℕ) (n : ℕ) (found : ℕ × ℕ) → n ≡ entry_count node
     → IsFirst (is_entry block node name) (entry_inode block node) n found → Some found.1 ≡ child_of block node name
 looked block node name n found size finds =

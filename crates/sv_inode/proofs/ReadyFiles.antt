@@ -70,6 +70,16 @@ twelve-pages g h a count e low =
     few false q = (let nothing : length (touched 1024 0 count) ≡ 0 = ap (λ z. length (touched 1024 0 z)) (none count q) in omega
         (arith, nothing))
 
+-- an entry needs at most eight blocks, wherever it stands
+pub entry-few : (g : Geometry) (h : Held) (a : List ℕ) (place : ℕ) → g ≡ sample_sizes → write_need g h a (16 * place) 16 ≤ 48
+entry-few g h a place e =
+    omega (
+      arith,
+      need-most g h a (16 * place / g.block_size) (length (touched g.block_size (16 * place) 16)),
+      ap (λ q. length (touched q.block_size (16 * place) 16)) e,
+      touched-length 1024 (16 * place) 16 (omega arith),
+    )
+
 -- a file without bytes, beside a core
 pub ready-after : {p o : Origin} {k h : Held} {m : Lent} {n number : ℕ} {body : InodeBody} → IsSource p k o h m n → IsSome (h 2 2)
     → number ≡ 3 → body.size ≡ 0 → body.addresses ≡ thirteen → IsReady o h m number body p k

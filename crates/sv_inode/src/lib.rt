@@ -12,6 +12,8 @@
 
 mod cuts;
 mod enter;
+#[cfg(test)]
+mod enter_tests;
 mod fill;
 mod locked;
 mod names;

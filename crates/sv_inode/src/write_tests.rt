@@ -28,9 +28,9 @@ const FILE: InodeBody = InodeBody {
 const FREE: u32 = 59;
 
 // The bytes of twelve pages, and as many blocks as those can need.
-const MOST: usize = 12288;
+pub(crate) const MOST: usize = 12288;
 
-const ENOUGH: u32 = 48;
+pub(crate) const ENOUGH: u32 = 48;
 
 // Frees one block, whose lines another stake holds.
 fn free_one<R: Wait, S: Stake>(
@@ -62,7 +62,7 @@ fn free_one<R: Wait, S: Stake>(
 }
 
 // Frees all blocks from the last down to block 5.
-fn free_each<R: Wait, S: Stake>(
+pub(crate) fn free_each<R: Wait, S: Stake>(
     rt: &R,
     alloc: Global,
     core: &mut SuperCore<S>,
@@ -83,10 +83,10 @@ fn free_each<R: Wait, S: Stake>(
 }
 
 // What a write answers, and how many blocks are free then.
-type Written = (Result<(), WriteStop>, u32);
+pub(crate) type Written = (Result<(), WriteStop>, u32);
 
 // Puts up to twelve pages of bytes at the begin of the file, where there are blocks enough for any file.
-fn write<R: Wait, S: Stake>(
+pub(crate) fn write<R: Wait, S: Stake>(
     rt: &R,
     alloc: Global,
     inode: &mut LockedInode<S>,
