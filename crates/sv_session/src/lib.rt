@@ -15,6 +15,10 @@ mod replay_tests;
 mod sound_line;
 mod stop;
 #[cfg(test)]
+mod test_images;
+#[cfg(test)]
+mod test_runs;
+#[cfg(test)]
 mod tests;
 mod top;
 mod tree;

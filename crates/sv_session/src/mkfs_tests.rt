@@ -1,6 +1,6 @@
 // Images made anew, by the program over the forms in memory.
-use crate::tests::answers;
-use crate::tests::made_images::new_image;
+use crate::test_images::{FIVE_SEVENS, MADE, bytes_of};
+use crate::test_runs::{Row, Stage, hold};
 use std::alloc::Global;
 use std::fs::File;
 use std::process::Abort;
@@ -10,85 +10,81 @@ use std::test::Fail as Failure;
 use std::thread::Threads;
 use sv_dev::{Fail, MemHost};
 
-const UNREAD: &str = "svfs: words not understood\n";
+const UNREAD: &[u8] = b"svfs: words not understood\n";
 
-const SMALLEST: [&str; 4] = ["mkfs", "i", "4", "2"];
+const FILE_FAULT: &[u8] = b"svfs: file fault\n";
 
-// An image of so many blocks for so many inodes is made under a name that nothing stands under, and its check gives the line.
-fn makes<R: Files<File = File> + AllocGlobal + Threads + Wait + Abort>(
-    rt: &R,
-    blocks: &str,
-    inodes: &str,
-    line: &str,
-) -> Result<(), Failure> {
-    let mut host = MemHost::new(Vec::new(rt.alloc()));
-    answers(rt, &mut host, &["mkfs", "i", blocks, inodes], 0, "", "")?;
-    answers(rt, &mut host, &["check", "i"], 0, line, "")
-}
+const SMALLEST: &[&str] = &["mkfs", "i", "4", "2"];
+
+// Images made under names that nothing stands under, and the check of each.
+const MAKINGS: &[Row] = &[
+    (&["mkfs", "i", "4", "2"], (0, b"", b"")),
+    (
+        &["check", "i"],
+        (0, b"ok blocks 4 free 0 inodes 16 used 1\n", b""),
+    ),
+    (&["mkfs", "j", "8", "80"], (0, b"", b"")),
+    (
+        &["check", "j"],
+        (0, b"ok blocks 8 free 0 inodes 80 used 1\n", b""),
+    ),
+    (&["mkfs", "k", "64", "32"], (0, b"", b"")),
+    (
+        &["check", "k"],
+        (0, b"ok blocks 64 free 59 inodes 32 used 1\n", b""),
+    ),
+];
 
 #[test]
 fn made_ones(rt: HostRuntime) -> Result<(), Failure> {
-    makes(&rt, "4", "2", "ok blocks 4 free 0 inodes 16 used 1\n")?;
-    makes(&rt, "8", "80", "ok blocks 8 free 0 inodes 80 used 1\n")?;
-    makes(&rt, "64", "32", "ok blocks 64 free 59 inodes 32 used 1\n")
+    let mut stage = Stage::new(rt.alloc(), Vec::new(rt.alloc()));
+    hold(&rt, &mut stage, MAKINGS)
 }
 
-// Numbers out of the limits, and words that are too few, too many or no numbers. Nothing is made then.
+// Numbers out of the limits, and words that are too few, too many or no numbers.
+const REFUSED: &[Row] = &[
+    (&["mkfs", "i", "3", "2"], (1, b"", UNREAD)),
+    (&["mkfs", "i", "65537", "2"], (1, b"", UNREAD)),
+    (&["mkfs", "i", "8", "81"], (1, b"", UNREAD)),
+    (&["mkfs", "i", "8", "1"], (1, b"", UNREAD)),
+    (&["mkfs", "i", "65536", "65521"], (1, b"", UNREAD)),
+    (&["mkfs", "i", "08", "16"], (1, b"", UNREAD)),
+    (&["mkfs", "i", "8", "+16"], (1, b"", UNREAD)),
+    (&["mkfs", "i", "8", ""], (1, b"", UNREAD)),
+    (&["mkfs", "i", "8"], (1, b"", UNREAD)),
+    (&["mkfs", "i", "8", "16", "1"], (1, b"", UNREAD)),
+    (&["mkfs"], (1, b"", UNREAD)),
+    (&[], (1, b"", UNREAD)),
+];
+
+fn refuse_words<R: Files<File = File> + AllocGlobal + Threads + Wait + Abort>(
+    rt: &R,
+    stage: &mut Stage,
+) -> Result<(), Failure> {
+    hold(rt, stage, REFUSED)?;
+    assert!(rt; stage.host.image("i").is_none());
+    Ok(())
+}
+
+// Nothing is made where the words are refused.
 #[test]
 fn refused_words(rt: HostRuntime) -> Result<(), Failure> {
-    let mut host = MemHost::new(Vec::new(rt.alloc()));
-    for [blocks, inodes] in [
-        ["3", "2"],
-        ["65537", "2"],
-        ["8", "81"],
-        ["8", "1"],
-        ["65536", "65521"],
-        ["08", "16"],
-        ["8", "+16"],
-        ["8", ""],
-    ] {
-        answers(
-            &rt,
-            &mut host,
-            &["mkfs", "i", blocks, inodes],
-            1,
-            "",
-            UNREAD,
-        )?;
+    let mut stage = Stage::new(rt.alloc(), Vec::new(rt.alloc()));
+    refuse_words(&rt, &mut stage)
+}
+
+// Whether these bytes stand under the name.
+fn has_bytes(host: &MemHost, name: &str, bytes: &[u8]) -> bool {
+    match host.image(name) {
+        Some(image) => image == bytes,
+        None => false,
     }
-    answers(&rt, &mut host, &["mkfs", "i", "8"], 1, "", UNREAD)?;
-    answers(
-        &rt,
-        &mut host,
-        &["mkfs", "i", "8", "16", "1"],
-        1,
-        "",
-        UNREAD,
-    )?;
-    answers(&rt, &mut host, &["mkfs"], 1, "", UNREAD)?;
-    answers(&rt, &mut host, &[], 1, "", UNREAD)?;
-    assert!(rt; host.image("i").is_none());
-    Ok(())
 }
 
-// Each byte of the image of 64 blocks and 32 inodes. It takes the place of what stood there, and another image stays.
-#[test]
-fn whole_image(rt: HostRuntime) -> Result<(), Failure> {
-    let alloc = rt.alloc();
-    let mut host = host_failing_at(alloc, 3)?;
-    host.put_image("A", vec![in alloc; 7; 5]?, Vec::new(alloc))?;
-    answers(&rt, &mut host, &["mkfs", "A", "64", "32"], 0, "", "")?;
-    let image = new_image(alloc)?;
-    assert_eq!(rt; host.image("A"), Some(image.as_slice()));
-    assert_eq!(rt; host.image("i"), Some([7; 5].as_slice()));
-    Ok(())
-}
-
-// A host whose call with that number fails, with five bytes under the name.
-fn host_failing_at(alloc: Global, call: u64) -> Result<MemHost, Failure> {
-    let mut host = MemHost::new(vec![in alloc; call]?);
-    host.put_image("i", vec![in alloc; 7; 5]?, Vec::new(alloc))?;
-    Ok(host)
+// Whether the bytes of the image of 64 blocks and 32 inodes stand under the name.
+fn has_made_bytes(alloc: Global, host: &MemHost, name: &str) -> Result<bool, Failure> {
+    let made = bytes_of(alloc, MADE, &[])?;
+    Ok(has_bytes(host, name, &made))
 }
 
 // Whether the four blocks under the name are zero bytes.
@@ -99,51 +95,97 @@ fn has_zeros(host: &MemHost) -> bool {
     }
 }
 
-// A disk that is not given leaves what stood there, and one that is not kept leaves zero bytes.
-#[test]
-fn each_call_failing(rt: HostRuntime) -> Result<(), Failure> {
-    let alloc = rt.alloc();
-    let fault = "svfs: file fault\n";
-    let mut ungiven = host_failing_at(alloc, 1)?;
-    answers(&rt, &mut ungiven, &SMALLEST, 5, "", fault)?;
-    assert_eq!(rt; ungiven.image("i"), Some([7; 5].as_slice()));
-    let mut unkept = host_failing_at(alloc, 2)?;
-    answers(&rt, &mut unkept, &SMALLEST, 5, "", fault)?;
-    assert!(rt; has_zeros(&unkept));
-    Ok(())
-}
-
-// A host with an image whose disks fail at that call.
-fn host_with_a_bad_disk(alloc: Global, fail: Fail) -> Result<MemHost, Failure> {
-    let mut host = MemHost::new(Vec::new(alloc));
-    let fails = vec![in alloc; fail]?;
-    host.put_image("i", vec![in alloc; 7; 5]?, fails)?;
-    Ok(host)
-}
-
-// A making over such a disk is answered by a device fault. What was written before the call that fails is not kept.
-fn tells_fault<R: Files<File = File> + AllocGlobal + Threads + Wait + Abort>(
+fn make_beside_another<R: Files<File = File> + AllocGlobal + Threads + Wait + Abort>(
     rt: &R,
-    fail: Fail,
+    stage: &mut Stage,
 ) -> Result<(), Failure> {
-    let mut host = host_with_a_bad_disk(rt.alloc(), fail)?;
-    answers(rt, &mut host, &SMALLEST, 4, "", "svfs: device fault\n")?;
-    assert!(rt; has_zeros(&host));
+    let alloc = rt.alloc();
+    stage.put(alloc, "i", FIVE_SEVENS, &[])?;
+    stage.put(alloc, "A", FIVE_SEVENS, &[])?;
+    hold(rt, stage, &[(&["mkfs", "A", "64", "32"], (0, b"", b""))])?;
+    assert!(rt; has_made_bytes(alloc, &stage.host, "A")?);
+    assert!(rt; has_bytes(&stage.host, "i", &[7; 5]));
     Ok(())
 }
 
-// There are four reads, and three writes: block 1 has zero bytes.
+// Each byte of the image of 64 blocks and 32 inodes. It takes the place of what stood there, and another image stays. There
+// is no third call of the host.
+#[test]
+fn whole_image(rt: HostRuntime) -> Result<(), Failure> {
+    let mut stage = Stage::new(rt.alloc(), vec![in rt.alloc(); 3]?);
+    make_beside_another(&rt, &mut stage)
+}
+
+const FAULT_OF_THE_HOST: &[Row] = &[(SMALLEST, (5, b"", FILE_FAULT))];
+
+fn make_over_sevens<R: Files<File = File> + AllocGlobal + Threads + Wait + Abort>(
+    rt: &R,
+    stage: &mut Stage,
+) -> Result<(), Failure> {
+    stage.put(rt.alloc(), "i", FIVE_SEVENS, &[])?;
+    hold(rt, stage, FAULT_OF_THE_HOST)
+}
+
+// A disk that is not given leaves what stood there.
+#[test]
+fn disk_not_given(rt: HostRuntime) -> Result<(), Failure> {
+    let mut stage = Stage::new(rt.alloc(), vec![in rt.alloc(); 1]?);
+    make_over_sevens(&rt, &mut stage)?;
+    assert!(rt; has_bytes(&stage.host, "i", &[7; 5]));
+    Ok(())
+}
+
+// A disk that is not kept leaves zero bytes.
+#[test]
+fn disk_not_kept(rt: HostRuntime) -> Result<(), Failure> {
+    let mut stage = Stage::new(rt.alloc(), vec![in rt.alloc(); 2]?);
+    make_over_sevens(&rt, &mut stage)?;
+    assert!(rt; has_zeros(&stage.host));
+    Ok(())
+}
+
+// Each transfer of a making may fail: there are four reads, and three writes, as block 1 has zero bytes.
+const TRANSFERS: &[Fail] = &[
+    Fail::Read(1),
+    Fail::Read(2),
+    Fail::Read(3),
+    Fail::Read(4),
+    Fail::Write(1),
+    Fail::Write(2),
+    Fail::Write(3),
+];
+
+const DISK_FAULT: &[Row] = &[(SMALLEST, (4, b"", b"svfs: device fault\n"))];
+
+// A failing transfer is answered by a device fault. What was written before it is not kept.
+fn fail_each_transfer<R: Files<File = File> + AllocGlobal + Threads + Wait + Abort>(
+    rt: &R,
+    stage: &mut Stage,
+) -> Result<(), Failure> {
+    for fail in TRANSFERS {
+        stage.put_failing(rt.alloc(), "i", FIVE_SEVENS, *fail)?;
+        hold(rt, stage, DISK_FAULT)?;
+        assert!(rt; has_zeros(&stage.host));
+    }
+    Ok(())
+}
+
+const MAKING: &[Row] = &[(SMALLEST, (0, b"", b""))];
+
+fn fail_none<R: Files<File = File> + AllocGlobal + Threads + Wait + Abort>(
+    rt: &R,
+    stage: &mut Stage,
+) -> Result<(), Failure> {
+    for fail in [Fail::Read(5), Fail::Write(4)] {
+        stage.put_failing(rt.alloc(), "i", FIVE_SEVENS, fail)?;
+        hold(rt, stage, MAKING)?;
+    }
+    Ok(())
+}
+
 #[test]
 fn each_transfer_failing(rt: HostRuntime) -> Result<(), Failure> {
-    for read in 1..=4 {
-        tells_fault(&rt, Fail::Read(read))?;
-    }
-    for write in 1..=3 {
-        tells_fault(&rt, Fail::Write(write))?;
-    }
-    for fail in [Fail::Read(5), Fail::Write(4)] {
-        let mut host = host_with_a_bad_disk(rt.alloc(), fail)?;
-        answers(&rt, &mut host, &SMALLEST, 0, "", "")?;
-    }
-    Ok(())
+    let mut stage = Stage::new(rt.alloc(), Vec::new(rt.alloc()));
+    fail_each_transfer(&rt, &mut stage)?;
+    fail_none(&rt, &mut stage)
 }

@@ -3,8 +3,9 @@ ghost use Rattle.std.specs.Prelude.{◌≡◌, ◌≢◌, List, ℕ, Option, Som
 
 mod replies;
 
-use crate::tests::made_images::new_image;
-use crate::{replay_image, tests};
+use crate::replay_image;
+use crate::test_images::{EMPTY, MADE, bytes_of};
+use crate::test_runs::{Row, Stage, Told, hold, run};
 use std::alloc::{AllocError, Global};
 use std::fs::File;
 use std::process::Abort;
@@ -12,10 +13,10 @@ use std::rt::Files;
 use std::sync::Wait;
 use std::test::Fail as Failure;
 use std::thread::Threads;
-use sv_dev::{Fail, Host, MemHost, MemSink, Sink};
+use sv_dev::{Fail, Host, MemHost, Sink};
 
 // What a run wrote that makes a directory and a file, writes, reads and looks at it.
-const WORKED: [&str; 29] = [
+const WORKED: &[&str] = &[
     "svj 1 1 100\n",
     "1 promise make 2 686f6d65 = granted 1\n",
     "1 create 2 686f6d65 d 755 = made 3\n",
@@ -47,111 +48,119 @@ const WORKED: [&str; 29] = [
     "0 purge = done\n",
 ];
 
-fn text_of(alloc: Global, lines: &[&str]) -> Result<Vec<u8>, AllocError> {
-    let mut text = Vec::new(alloc);
-    for line in lines {
-        text.extend_from_slice(line.as_bytes())?;
+// Lines of that journal by their places from 0, and the text in place of each.
+type Change = (usize, &'static str);
+
+fn line_after(changes: &[Change], place: usize, line: &'static str) -> &'static str {
+    match changes.iter().find(|change| change.0 == place) {
+        Some(change) => change.1,
+        None => line,
     }
+}
+
+fn write_journal(text: &mut Vec<u8>, changes: &[Change]) -> Result<(), AllocError> {
+    for (place, line) in WORKED.iter().enumerate() {
+        text.extend_from_slice(line_after(changes, place, line).as_bytes())?;
+    }
+    Ok(())
+}
+
+// The journal after these changes.
+fn journal(alloc: Global, changes: &[Change]) -> Result<Vec<u8>, AllocError> {
+    let mut text = Vec::new(alloc);
+    write_journal(&mut text, changes)?;
     Ok(text)
 }
 
-// Over the new image, this text is answered by this status, these bytes and this line.
+// Puts the journal after these changes under the name J, and the new image under the name A.
+fn put_both(alloc: Global, stage: &mut Stage, changes: &[Change]) -> Result<(), Failure> {
+    let text = journal(alloc, changes)?;
+    stage.host.put_text("J", text)?;
+    stage.put(alloc, "A", MADE, &[])
+}
+
+const REPLAY: &[&str] = &["replay", "A", "J"];
+
+// The replay of the journal after these changes is answered so.
 fn gives<R: Files<File = File> + AllocGlobal + Threads + Wait + Abort>(
     rt: &R,
-    text: Vec<u8>,
-    status: u8,
-    out: &str,
-    note: &str,
+    changes: &[Change],
+    told: Told,
 ) -> Result<(), Failure> {
-    let alloc = rt.alloc();
-    let mut host = MemHost::new(Vec::new(alloc));
-    host.put_text("J", text)?;
-    host.put_image("A", new_image(alloc)?, Vec::new(alloc))?;
-    answers(rt, &mut host, "J", status, out, note)
+    let mut stage = Stage::new(rt.alloc(), Vec::new(rt.alloc()));
+    gives_on(rt, &mut stage, changes, told)
 }
 
-// `replay` of image A with the text of that name is answered so.
-fn answers<R: Files<File = File> + AllocGlobal + Threads + Wait + Abort>(
+fn gives_on<R: Files<File = File> + AllocGlobal + Threads + Wait + Abort>(
     rt: &R,
-    host: &mut MemHost,
-    journal: &str,
-    status: u8,
-    out: &str,
-    note: &str,
+    stage: &mut Stage,
+    changes: &[Change],
+    told: Told,
 ) -> Result<(), Failure> {
-    tests::answers(rt, host, &["replay", "A", journal], status, out, note)
+    put_both(rt.alloc(), stage, changes)?;
+    hold(rt, stage, &[(REPLAY, told)])
 }
 
-#[test]
-fn worked_journal(rt: HostRuntime) -> Result<(), Failure> {
-    let listing = "inode 2 d 755 links 3 size 48 pages 1
+const LISTING: &[u8] = b"inode 2 d 755 links 3 size 48 pages 1
 inode 3 d 755 links 2 size 48 pages 1
 inode 4 f 644 links 1 size 6 pages 1
 ";
-    gives(&rt, text_of(rt.alloc(), &WORKED)?, 0, listing, "")
+
+#[test]
+fn worked_journal(rt: HostRuntime) -> Result<(), Failure> {
+    gives(&rt, &[], (0, LISTING, b""))
 }
 
 // Bytes that were never written, a making cut out, and a promise asked twice: each is refused where it is illegal.
+const ILLEGAL: &[(&[Change], &[u8])] = &[
+    (
+        &[(20, "1 read 0 4 = got 656c6c70\n")],
+        b"svfs: journal line 21 refused\n",
+    ),
+    (&[(2, "")], b"svfs: journal line 4 refused\n"),
+    (
+        &[(0, "svj 1 1 100\n1 promise make 2 686f6d65 = granted 1\n")],
+        b"svfs: journal line 3 refused\n",
+    ),
+];
+
 #[test]
 fn illegal_entries(rt: HostRuntime) -> Result<(), Failure> {
-    let alloc = rt.alloc();
-    let mut other = WORKED;
-    other[20] = "1 read 0 4 = got 656c6c70\n";
-    gives(
-        &rt,
-        text_of(alloc, &other)?,
-        8,
-        "",
-        "svfs: journal line 21 refused\n",
-    )?;
-    let mut cut = WORKED;
-    cut[2] = "";
-    gives(
-        &rt,
-        text_of(alloc, &cut)?,
-        8,
-        "",
-        "svfs: journal line 4 refused\n",
-    )?;
-    let mut doubled = WORKED;
-    doubled[0] = "svj 1 1 100\n1 promise make 2 686f6d65 = granted 1\n";
-    gives(
-        &rt,
-        text_of(alloc, &doubled)?,
-        8,
-        "",
-        "svfs: journal line 3 refused\n",
-    )
+    for (changes, note) in ILLEGAL {
+        gives(&rt, changes, (8, b"", note))?;
+    }
+    Ok(())
 }
 
 // A line that does not read is refused before an illegal entry above it.
+const UNENDED: &[&[Change]] = &[
+    &[(28, "0 purge = done")],
+    &[(28, "0 purge = done"), (20, "1 read 0 4 = got 656c6c70\n")],
+];
+
 #[test]
 fn lines_that_do_not_read(rt: HostRuntime) -> Result<(), Failure> {
-    let alloc = rt.alloc();
-    let mut unended = WORKED;
-    unended[28] = "0 purge = done";
-    gives(
-        &rt,
-        text_of(alloc, &unended)?,
-        8,
-        "",
-        "svfs: journal line 29 refused\n",
-    )?;
-    unended[20] = "1 read 0 4 = got 656c6c70\n";
-    gives(
-        &rt,
-        text_of(alloc, &unended)?,
-        8,
-        "",
-        "svfs: journal line 29 refused\n",
-    )?;
-    gives(
-        &rt,
-        Vec::new(alloc),
-        8,
-        "",
-        "svfs: journal line 1 refused\n",
-    )
+    for changes in UNENDED {
+        gives(&rt, changes, (8, b"", b"svfs: journal line 29 refused\n"))?;
+    }
+    Ok(())
+}
+
+const FIRST_LINE_REFUSED: &[Row] = &[(REPLAY, (8, b"", b"svfs: journal line 1 refused\n"))];
+
+fn replay_no_byte<R: Files<File = File> + AllocGlobal + Threads + Wait + Abort>(
+    rt: &R,
+    stage: &mut Stage,
+) -> Result<(), Failure> {
+    stage.put(rt.alloc(), "A", MADE, &[])?;
+    stage.host.put_text("J", Vec::new(rt.alloc()))?;
+    hold(rt, stage, FIRST_LINE_REFUSED)
+}
+
+#[test]
+fn journal_of_no_byte(rt: HostRuntime) -> Result<(), Failure> {
+    let mut stage = Stage::new(rt.alloc(), Vec::new(rt.alloc()));
+    replay_no_byte(&rt, &mut stage)
 }
 
 // A host that tells its texts, and has none under any name: whatever else it does, `replay` is not done.
@@ -169,75 +178,93 @@ fn replay_of_nothing<R: Files<File = File>, H: Host, O: Sink>(
     replay_image(rt, alloc, host, "A", "J", out, note)
 }
 
+const NOT_THERE: &Told = &(5, b"", FILE_FAULT);
+
+fn replay_without_a_journal<R: Files<File = File> + AllocGlobal + Threads + Wait + Abort>(
+    rt: &R,
+    stage: &mut Stage,
+) -> Result<(), Failure> {
+    let alloc = rt.alloc();
+    let image = bytes_of(alloc, MADE, &[])?;
+    let mut host = MemHost::new(Vec::new(alloc));
+    host.put_image("A", image, Vec::new(alloc))?;
+    let status = replay_of_nothing(rt, alloc, &mut host, &mut stage.out, &mut stage.note);
+    assert_eq!(rt; stage.told(status), *NOT_THERE);
+    Ok(())
+}
+
 #[test]
 fn journal_that_is_not_there(rt: HostRuntime) -> Result<(), Failure> {
-    let alloc = rt.alloc();
-    let mut host = MemHost::new(Vec::new(alloc));
-    host.put_image("A", new_image(alloc)?, Vec::new(alloc))?;
-    let mut out = MemSink::new(Vec::new(alloc));
-    let mut note = MemSink::new(Vec::new(alloc));
-    let status = replay_of_nothing(&rt, alloc, &mut host, &mut out, &mut note);
-    assert_eq!(rt; status, 5);
-    assert_eq!(rt; out.written(), b"".as_slice());
-    assert_eq!(rt; note.written(), b"svfs: file fault\n".as_slice());
+    let mut stage = Stage::new(rt.alloc(), Vec::new(rt.alloc()));
+    replay_without_a_journal(&rt, &mut stage)
+}
+
+// A write of `out` that fails, and what is answered.
+const WRITES: &[(u64, Told)] = &[
+    (1, (6, b"", b"svfs: write fault\n")),
+    (2, (0, LISTING, b"")),
+];
+
+fn fail_each_write<R: Files<File = File> + AllocGlobal + Threads + Wait + Abort>(
+    rt: &R,
+    stage: &mut Stage,
+) -> Result<(), Failure> {
+    put_both(rt.alloc(), stage, &[])?;
+    for (call, told) in WRITES {
+        stage.clear_failing(rt.alloc(), *call)?;
+        let status = run(rt, stage, REPLAY)?;
+        assert_eq!(rt; stage.told(status), *told);
+    }
     Ok(())
 }
 
 // `out` fails at its first write, which is the whole listing; there is no second.
 #[test]
 fn sink_failing(rt: HostRuntime) -> Result<(), Failure> {
-    let alloc = rt.alloc();
-    for (call, status, note) in [(1u64, 6, "svfs: write fault\n"), (2, 0, "")] {
-        let mut host = MemHost::new(Vec::new(alloc));
-        host.put_text("J", text_of(alloc, &WORKED)?)?;
-        host.put_image("A", new_image(alloc)?, Vec::new(alloc))?;
-        let done = tests::run_on(&rt, &mut host, vec![in alloc; call]?, &["replay", "A", "J"])?;
-        assert_eq!(rt; done.status, status);
-        assert_eq!(rt; done.note.written(), note.as_bytes());
-        assert_eq!(rt; done.out.written().is_empty(), status != 0);
-    }
-    Ok(())
+    let mut stage = Stage::new(rt.alloc(), Vec::new(rt.alloc()));
+    fail_each_write(&rt, &mut stage)
+}
+
+const FILE_FAULT: &[u8] = b"svfs: file fault\n";
+
+const FAULT: &[Row] = &[(REPLAY, (5, b"", FILE_FAULT))];
+
+const REFUSAL: &[Row] = &[(REPLAY, (2, b"", b"svfs: image refused: 1 Magic 0\n"))];
+
+fn replay_with_neither_and_without_one<
+    R: Files<File = File> + AllocGlobal + Threads + Wait + Abort,
+>(rt: &R, stage: &mut Stage) -> Result<(), Failure> {
+    hold(rt, stage, FAULT)?;
+    stage.put(rt.alloc(), "A", EMPTY, &[])?;
+    hold(rt, stage, REFUSAL)?;
+    stage.put(rt.alloc(), "A", MADE, &[])?;
+    hold(rt, stage, FAULT)
 }
 
 // The image comes before the journal, and both have to be there.
 #[test]
 fn image_before_journal(rt: HostRuntime) -> Result<(), Failure> {
-    let alloc = rt.alloc();
-    let mut host = MemHost::new(Vec::new(alloc));
-    answers(&rt, &mut host, "J", 5, "", "svfs: file fault\n")?;
-    host.put_image("A", Vec::new(alloc), Vec::new(alloc))?;
-    answers(
-        &rt,
-        &mut host,
-        "J",
-        2,
-        "",
-        "svfs: image refused: 1 Magic 0\n",
-    )?;
-    host.put_image("A", new_image(alloc)?, Vec::new(alloc))?;
-    answers(&rt, &mut host, "J", 5, "", "svfs: file fault\n")
+    let mut stage = Stage::new(rt.alloc(), Vec::new(rt.alloc()));
+    replay_with_neither_and_without_one(&rt, &mut stage)
 }
 
-// `replay` without a journal is answered so where this read of the image fails.
-fn fails_at<R: Files<File = File> + AllocGlobal + Threads + Wait + Abort>(
+const DISK_FAULT: &[Row] = &[(REPLAY, (4, b"", b"svfs: device fault\n"))];
+
+fn fail_each_read<R: Files<File = File> + AllocGlobal + Threads + Wait + Abort>(
     rt: &R,
-    read: u64,
-    status: u8,
-    note: &str,
+    stage: &mut Stage,
 ) -> Result<(), Failure> {
-    let alloc = rt.alloc();
-    let mut host = MemHost::new(Vec::new(alloc));
-    let fails = vec![in alloc; Fail::Read(read)]?;
-    host.put_image("A", new_image(alloc)?, fails)?;
-    answers(rt, &mut host, "J", status, "", note)
+    for read in 1..=12 {
+        stage.put_failing(rt.alloc(), "A", MADE, Fail::Read(read))?;
+        hold(rt, stage, if read <= 11 { DISK_FAULT } else { FAULT })?;
+    }
+    Ok(())
 }
 
 // Each read of the image may fail: the check makes eight (the superblock, twice each of the two blocks of the inode list,
-// twice the root's page, and the link block), and the load three. There is no twelfth.
+// twice the root's page, and the link block), and the load three. There is no twelfth, and the journal is not there.
 #[test]
 fn failing_reads(rt: HostRuntime) -> Result<(), Failure> {
-    for read in 1..=11 {
-        fails_at(&rt, read, 4, "svfs: device fault\n")?;
-    }
-    fails_at(&rt, 12, 5, "svfs: file fault\n")
+    let mut stage = Stage::new(rt.alloc(), Vec::new(rt.alloc()));
+    fail_each_read(&rt, &mut stage)
 }

@@ -1,7 +1,7 @@
 //! Journals in which each op has each reply that it can have without a device fault.
 ghost use Rattle.std.specs.Prelude.{◌≤◌};
 
-use super::tests;
+use crate::test_runs::{Stage, Told, hold};
 use std::alloc::{AllocError, Global};
 use std::fs::File;
 use std::process::Abort;
@@ -9,7 +9,6 @@ use std::rt::Files;
 use std::sync::Wait;
 use std::test::Fail as Failure;
 use std::thread::Threads;
-use sv_dev::MemHost;
 
 // Three processes over an image of 16 blocks and 16 inodes, with a table of four places. What is missing here is in the
 // journal below: directories and files with the most links, and a directory whose next entry has no room.
@@ -174,23 +173,43 @@ inode 15 f 644 links 1 size 0 pages 0
 inode 16 f 644 links 1 size 0 pages 0
 ";
 
-// Over a new image of so many blocks for so many inodes, this text leads to this listing.
+const REPLAY: &[&str] = &["replay", "B", "J"];
+
+const MADE_SO: &Told = &(0, b"", b"");
+
+fn listed(listing: &[u8]) -> Told<'_> {
+    (0, listing, b"")
+}
+
+// Over the image that these words make, this text leads to this listing.
 fn leads_to<R: Files<File = File> + AllocGlobal + Threads + Wait + Abort>(
     rt: &R,
-    [blocks, inodes]: [&str; 2],
-    text: Vec<u8>,
-    listing: &str,
+    making: &[&str],
+    text: &[u8],
+    listing: &[u8],
 ) -> Result<(), Failure> {
-    let mut host = MemHost::new(Vec::new(rt.alloc()));
-    host.put_text("J", text)?;
-    tests::answers(rt, &mut host, &["mkfs", "B", blocks, inodes], 0, "", "")?;
-    tests::answers(rt, &mut host, &["replay", "B", "J"], 0, listing, "")
+    let mut stage = Stage::new(rt.alloc(), Vec::new(rt.alloc()));
+    leads_on_to(rt, &mut stage, making, text, listed(listing))
+}
+
+fn leads_on_to<R: Files<File = File> + AllocGlobal + Threads + Wait + Abort>(
+    rt: &R,
+    stage: &mut Stage,
+    making: &[&str],
+    text: &[u8],
+    told: Told,
+) -> Result<(), Failure> {
+    stage
+        .host
+        .put_text("J", Vec::from_slice(rt.alloc(), text)?)?;
+    hold(rt, stage, &[(making, *MADE_SO)])?;
+    hold(rt, stage, &[(REPLAY, told)])
 }
 
 #[test]
 fn each_reply_of_each_op(rt: HostRuntime) -> Result<(), Failure> {
-    let text = Vec::from_slice(rt.alloc(), REPLIES.as_bytes())?;
-    leads_to(&rt, ["16", "16"], text, REPLIES_LISTING)
+    let (text, listing) = (REPLIES.as_bytes(), REPLIES_LISTING.as_bytes());
+    leads_to(&rt, &["mkfs", "B", "16", "16"], text, listing)
 }
 
 // The name of four digits, as a journal spells it.
@@ -283,7 +302,12 @@ fn most_links_listing(alloc: Global) -> Result<String, AllocError> {
 
 #[test]
 fn as_many_links_as_there_can_be(rt: HostRuntime) -> Result<(), Failure> {
-    let text = Vec::from_slice(rt.alloc(), most_links(rt.alloc())?.as_bytes())?;
+    let text = most_links(rt.alloc())?;
     let listing = most_links_listing(rt.alloc())?;
-    leads_to(&rt, ["2048", "1024"], text, listing.as_str())
+    leads_to(
+        &rt,
+        &["mkfs", "B", "2048", "1024"],
+        text.as_bytes(),
+        listing.as_bytes(),
+    )
 }
