@@ -12,6 +12,8 @@ pub mod Cutting
 pub mod Written
 pub mod Delaying
 pub mod Writing
+pub mod Clearing
+pub mod Queueing
 pub mod Fitting
 pub mod Weighing
 pub mod Joining

@@ -1,5 +1,5 @@
 -- A block is written with the device out.
-use Rattle.std.proofs.Common.{◌≡◌, ◌+◌, ◌*◌, ◌<◌, ◌≤◌, ℕ, Bool, true, false, List, ◌∷◌, length, set, Option, Some, None, Result, Ok, Err, is_some, IfSome, OnOk, IfErr, refl, sym, ap, ◌∙◌, subst, arith, inl, inr, nat_lt}
+use Rattle.std.proofs.Common.{◌≡◌, ◌+◌, ◌*◌, ◌<◌, ◌≤◌, ℕ, Bool, true, false, List, ◌∷◌, length, set, Option, Some, None, Result, Ok, Err, is_some, IfSome, OnOk, IfOk, IfErr, refl, sym, ap, ◌∙◌, subst, arith, inl, inr, nat_lt}
 use Rattle.std.proofs.lemmas.Bool.{false≢true}
 use Rattle.std.proofs.lemmas.List.{length-set}
 use Rattle.std.proofs.lemmas.List.Sums.{sum_by-cons}
@@ -281,7 +281,7 @@ pub out-under : (v w : View) (d : Device) (k b : ℕ) (o : Option (List ℕ)) �
     → w ≡ device_view d (moving_view k b o (calm_view w))
 out-under v w d k b o p out = p ∙ (out ∙ ap (λ q. device_view d (moving_view k b o (calm_view q))) (sym p))
 
-calm-is : (v : View) → v.moving ≡ None → v.device ≡ None → calm_view v ≡ v
+pub calm-is : (v : View) → v.moving ≡ None → v.device ≡ None → calm_view v ≡ v
 calm-is v m h = ap (λ o. record v { moving = o; device = None }) (sym m) ∙ ap (λ o. record v { device = o }) (sym h)
 
 -- a block that is written at once, from where its pass has it in transfer to where it is done
@@ -302,6 +302,10 @@ brings-out v w x d k b c bytes items first second same are calm home =
 pub on_ok : {T E : Type 0} (r : Result T E) (P Q : Type 0) → (P → Q) → OnOk r P → OnOk r Q
 on_ok (Ok x) P Q f p = f p
 on_ok (Err e) P Q f p = tt
+
+pub if_ok : {T E : Type 0} (r : Result T E) (P Q : T → Type 0) → ((x : T) → P x → Q x) → IfOk r P → IfOk r Q
+if_ok (Ok x) P Q f p = f x p
+if_ok (Err e) P Q f p = tt
 
 pub if_err : {T E : Type 0} (r : Result T E) (P Q : E → Type 0) → ((e : E) → P e → Q e) → IfErr r P → IfErr r Q
 if_err (Ok x) P Q f p = tt

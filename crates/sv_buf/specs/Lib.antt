@@ -8,3 +8,4 @@ pub mod Stake
 pub mod Pending
 pub mod Delaying
 pub mod Closing
+pub mod Meeting

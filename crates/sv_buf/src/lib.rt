@@ -6,7 +6,9 @@
 //! - `Cache::close` takes all passes back, writes what is still to be written, and gives the disk.
 #![tactic(auto)]
 
+mod ahead;
 mod cache;
+mod clear;
 mod close;
 mod delay;
 mod event;

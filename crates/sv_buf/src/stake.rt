@@ -12,6 +12,7 @@ ghost use Rattle.sv_store.specs.Causes.{HasFault};
 ghost use Rattle.sv_buf.specs.Running.{IsFit};
 ghost use Rattle.sv_buf.specs.Stake.{pass_held, pass_lent, pass_faults, pass_forced, pass_origin};
 
+use crate::ahead::get_ahead;
 use crate::cache::{Cache, CachePass};
 use crate::fresh::get_zeros;
 use crate::get::get;
@@ -62,6 +63,22 @@ impl<'a, D: Medium> CacheStake<'a, D> {
         get(rt, &self.cache.turn, &mut self.pass, b)
     }
 
+    /// Lends a block as `bread` does, and has a second one read ahead (Bach, algorithm breada). That the read ahead failed is
+    /// reported to nobody.
+    pub fn breada<R: Wait>(&mut self, rt: &R, b: u32, next: u32) -> Result<Buf, Refusal>
+        requires block { CanGet (pass_held self.old.pass) (pass_lent self.old.pass) b }
+        requires next { next < (pass_origin self.old.pass).sizes.blocks }
+        ensures ok { IfOk result (Gets (pass_origin self.old.pass) (pass_held self.old.pass) b) }
+        ensures lends { IfOk result (λ buf. pass_lent self.new.pass ≡ with b buf.bytes (pass_lent self.old.pass)) }
+        ensures err { OnErr result (pass_lent self.new.pass ≡ pass_lent self.old.pass) }
+        ensures held { pass_held self.new.pass ≡ pass_held self.old.pass }
+        ensures forced { pass_forced self.new.pass ≡ pass_forced self.old.pass }
+        ensures origin { pass_origin self.new.pass ≡ pass_origin self.old.pass }
+        ensures cause { HasFault (pass_faults self.old.pass) (pass_faults self.new.pass) result }
+    {
+        get_ahead(rt, &self.cache.turn, &mut self.pass, b, next)
+    }
+
     /// Lends a block of zero bytes, which are its bytes from then on; the block is not read.
     pub fn fresh<R: Wait>(&mut self, rt: &R, b: u32) -> Result<Buf, Refusal>
         requires { CanFresh (pass_origin self.old.pass) (pass_held self.old.pass) (pass_lent self.old.pass) b }
@@ -74,7 +91,7 @@ impl<'a, D: Medium> CacheStake<'a, D> {
         ensures origin { pass_origin self.new.pass ≡ pass_origin self.old.pass }
         ensures cause { HasFault (pass_faults self.old.pass) (pass_faults self.new.pass) result }
     {
-        Ok(get_zeros(rt, &self.cache.turn, &mut self.pass, b))
+        get_zeros(rt, &self.cache.turn, &mut self.pass, b)
     }
 
     /// Takes a block back unchanged (Bach, algorithm brelse). It runs no transfer, so no fault is counted.

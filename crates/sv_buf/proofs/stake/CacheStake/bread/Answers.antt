@@ -1,4 +1,4 @@
-use Rattle.std.proofs.Common.{◌≡◌, ◌∙◌, ℕ, List, Result, Ok, Err, IfOk, ap}
+use Rattle.std.proofs.Common.{◌≡◌, ◌∙◌, ℕ, List, ap}
 use Rattle.sv_turn.specs.Passes.{pass_view}
 use Rattle.sv_store.specs.Held.{with}
 use Rattle.sv_store.specs.Calls.{Gets}
@@ -6,12 +6,9 @@ use Rattle.sv_buf.specs.View.{View, held_of, lent_of}
 use Rattle.sv_buf.specs.Changes.{calm_view, lent_view}
 use Rattle.sv_buf.specs.Stake.{pass_held, pass_lent, pass_origin}
 use Rattle.sv_buf.proofs.Lists.{lent-with}
+use Rattle.sv_buf.proofs.Writing.{if_ok}
 use Rattle.sv_buf.proofs.Fitting.{fit-got}
 use Rattle.sv_buf.proofs.stake.CacheStake.bread.Goals as goal
-
-if_ok : {T E : Type 0} (r : Result T E) (P Q : T → Type 0) → ((x : T) → P x → Q x) → IfOk r P → IfOk r Q
-if_ok (Ok x) P Q f p = f x p
-if_ok (Err e) P Q f p = tt
 
 pub returns-clause-ok : goal.returns-clause-ok
 returns-clause-ok g c =
