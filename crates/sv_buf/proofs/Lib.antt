@@ -16,3 +16,4 @@ pub mod Fitting
 pub mod Weighing
 pub mod Joining
 pub mod Closing
+pub mod Flushing

@@ -281,7 +281,7 @@ pub out-under : (v w : View) (d : Device) (k b : ℕ) (o : Option (List ℕ)) �
     → w ≡ device_view d (moving_view k b o (calm_view w))
 out-under v w d k b o p out = p ∙ (out ∙ ap (λ q. device_view d (moving_view k b o (calm_view q))) (sym p))
 
-calm-is : (v : View) → v.moving ≡ None → v.device ≡ None → calm_view v ≡ v
+pub calm-is : (v : View) → v.moving ≡ None → v.device ≡ None → calm_view v ≡ v
 calm-is v m h = ap (λ o. record v { moving = o; device = None }) (sym m) ∙ ap (λ o. record v { device = o }) (sym h)
 
 -- a block that is written at once, from where its pass has it in transfer to where it is done

@@ -7,4 +7,5 @@ pub mod Start
 pub mod Stake
 pub mod Pending
 pub mod Delaying
+pub mod Resting
 pub mod Closing

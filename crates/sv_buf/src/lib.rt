@@ -10,6 +10,7 @@ mod cache;
 mod close;
 mod delay;
 mod event;
+mod flush;
 mod fresh;
 mod get;
 mod getblk;
@@ -20,6 +21,7 @@ mod read;
 mod rule;
 mod stake;
 mod state;
+mod take;
 mod view;
 mod write;
 
