@@ -48,7 +48,7 @@ set-set (z ∷ zs) (suc k) x y = ap (λ (l : List Buffer). z ∷ l) (set-set zs 
 
 module _ {D : Type 0} where
   -- a free buffer whose block was looked for, with its bytes
-  hit-takes : (seen : D → Device) (s : State D) (v : View) (us : List View) (h : IsRunning seen s (v ∷ us)) (k b : ℕ)
+  pub hit-takes : (seen : D → Device) (s : State D) (v : View) (us : List View) (h : IsRunning seen s (v ∷ us)) (k b : ℕ)
       (noted : Option (List ℕ)) → IsCause s.core b (met.Hit k)
       → IfSome noted (λ y. ((buffer_at s.core k).valid ≡ true) × ((buffer_at s.core k).bytes ≡ Some y))
       → IfNone noted ((buffer_at s.core k).valid ≡ false)

@@ -18,3 +18,4 @@ pub mod Fitting
 pub mod Weighing
 pub mod Joining
 pub mod Closing
+pub mod Flushing

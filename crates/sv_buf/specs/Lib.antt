@@ -7,5 +7,6 @@ pub mod Start
 pub mod Stake
 pub mod Pending
 pub mod Delaying
+pub mod Resting
 pub mod Closing
 pub mod Meeting

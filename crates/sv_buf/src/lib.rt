@@ -12,6 +12,7 @@ mod clear;
 mod close;
 mod delay;
 mod event;
+mod flush;
 mod fresh;
 mod get;
 mod getblk;
@@ -22,6 +23,7 @@ mod read;
 mod rule;
 mod stake;
 mod state;
+mod take;
 mod view;
 mod write;
 

@@ -1,5 +1,5 @@
 use Rattle.sv_buf.proofs.Closing.{taken-busy}
-use Rattle.sv_buf.proofs.close.take_out.Goals as goal
+use Rattle.sv_buf.proofs.take.take_out.Goals as goal
 
 pub returns-in-Busy-clause-after : goal.returns-in-Busy-clause-after
 returns-in-Busy-clause-after g c = taken-busy c.args.core.now c.attempt.new.self c.lend-in-Busy.new.self c.args.buffer c.in-Busy.found
