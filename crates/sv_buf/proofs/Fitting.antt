@@ -1,11 +1,11 @@
 -- A stake stays fit where a block is lent, or comes back as it was.
-use Rattle.std.proofs.Common.{◌≡◌, ◌+◌, ℕ, List, ◌∷◌, length, replicate, Result, Ok, Err, IfOk, IfErr, refl, sym, ap, ◌∙◌, subst}
+use Rattle.std.proofs.Common.{◌≡◌, ◌+◌, ◌<◌, ℕ, List, ◌∷◌, length, replicate, Result, Ok, Err, OnOk, IfOk, IfErr, refl, sym, ap, ◌∙◌, subst}
 use Rattle.std.proofs.lemmas.List.{length-replicate}
 use Rattle.sv_store.specs.Loan.{Loan}
 use Rattle.sv_store.specs.declared.refusal.Refusal.{Refusal}
 use Rattle.sv_store.specs.declared.refusal.Refusal.TheVariants.{Fault}
 use Rattle.sv_buf.specs.View.{View, Lending}
-use Rattle.sv_buf.specs.Changes.{calm_view, lent_view, failed_view, filled_view, back_view}
+use Rattle.sv_buf.specs.Changes.{calm_view, lent_view, failed_view, filled_view, forced_view, flushed_view, back_view}
 use Rattle.sv_buf.specs.Running.{IsFit}
 use Rattle.sv_buf.specs.Meeting.{MayFail}
 use Rattle.sv_buf.proofs.Delaying.{fit-filled}
@@ -45,6 +45,28 @@ pub fit-zeros : (r : Result Loan Refusal) (v w : View) (b : ℕ)
 fit-zeros (Ok buf) v w b ok zeros err fit =
     fit-filled v w ok.0 b buf.bytes ok.1 (ap length zeros ∙ (length-replicate {A = ℕ} 1024 0 ∙ sym fit.sizes.block_size)) fit
 fit-zeros (Err e) v w b ok zeros err fit = subst IsFit (sym err.1) (fit-calm v v.loans (v.faults + 1) fit)
+
+-- what is still to be written was written
+pub fit-flushed : {T : Type 0} (r : Result T Refusal) (v w : View) → OnOk r (w ≡ forced_view v)
+    → IfErr r (λ e. (e ≡ Fault) × ((n : ℕ) × (0 < n) × (w ≡ flushed_view n v))) → IsFit v → IsFit w
+fit-flushed (Ok x) v w ok err fit = subst IsFit (sym ok) (record {
+  sizes = fit.sizes;
+  range = fit.range;
+  some = fit.some;
+  calm = fit.calm;
+  home = fit.home;
+  once = fit.once;
+  no_worker = fit.no_worker;
+})
+fit-flushed (Err e) v w ok err fit = subst IsFit (sym err.1.2) (record {
+  sizes = fit.sizes;
+  range = fit.range;
+  some = fit.some;
+  calm = fit.calm;
+  home = fit.home;
+  once = fit.once;
+  no_worker = fit.no_worker;
+})
 
 pub fit-back : (v w : View) (b : ℕ) → w ≡ back_view b v → IsFit v → IsFit w
 fit-back v w b is fit = subst IsFit (sym is) (record {

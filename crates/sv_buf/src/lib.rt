@@ -10,6 +10,7 @@ mod ahead;
 mod cache;
 mod clear;
 mod close;
+mod contract;
 mod delay;
 mod event;
 mod flush;

@@ -14,6 +14,7 @@ ghost use Rattle.sv_buf.specs.Stake.{pass_held, pass_lent, pass_faults, pass_for
 
 use crate::ahead::get_ahead;
 use crate::cache::{Cache, CachePass};
+use crate::flush::flush_all;
 use crate::fresh::get_zeros;
 use crate::get::get;
 use crate::give::{take_back, take_put};
@@ -166,6 +167,18 @@ impl<'a, D: Medium> CacheStake<'a, D> {
     {
         let CacheStake { cache: _, pass } = other;
         self.cache.turn.join::<Brand>(&mut self.pass, pass);
+    }
+
+    /// Asks for the writing of what waits to be written: each buffer that is free then. It goes on after a failure.
+    pub fn flush<R: Wait>(&mut self, rt: &R) -> Result<(), Refusal>
+        requires { pass_lent self.old.pass ≡ nothing_lent }
+        ensures held { pass_held self.new.pass ≡ pass_held self.old.pass }
+        ensures lends { pass_lent self.new.pass ≡ pass_lent self.old.pass }
+        ensures forced { pass_forced self.new.pass ≡ true }
+        ensures origin { pass_origin self.new.pass ≡ pass_origin self.old.pass }
+        ensures cause { HasFault (pass_faults self.old.pass) (pass_faults self.new.pass) result }
+    {
+        flush_all(rt, &self.cache.turn, &mut self.pass, self.cache.buffers)
     }
 
     /// The pass again, with the lines that the stake holds.
