@@ -17,3 +17,4 @@ pub mod Weighing
 pub mod Joining
 pub mod Closing
 pub mod Flushing
+pub mod Serving

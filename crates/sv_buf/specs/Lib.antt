@@ -8,4 +8,5 @@ pub mod Stake
 pub mod Pending
 pub mod Delaying
 pub mod Resting
+pub mod Serving
 pub mod Closing
