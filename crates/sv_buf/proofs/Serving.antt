@@ -1,5 +1,5 @@
 -- The worker takes a buffer off the queue, and gives it back.
-use Rattle.std.proofs.Common.{◌≡◌, ◌+◌, ◌<◌, ◌≤◌, ◌==◌, ℕ, Bool, true, false, cond, List, ◌∷◌, length, set, Option, Some, None, Result, Ok, Err, OnOk, OnErr, IfSome, IfNone, IsSome, refl, sym, ap, ◌∙◌, subst, arith, nat_lt}
+use Rattle.std.proofs.Common.{◌≡◌, ◌+◌, ◌<◌, ◌≤◌, ◌==◌, ℕ, Bool, true, false, cond, List, ◌∷◌, length, set, Option, Some, None, Result, Ok, Err, OnOk, OnErr, IfSome, IfNone, refl, sym, ap, ◌∙◌, subst, arith, nat_lt}
 use Rattle.std.proofs.lemmas.Bool.{ltb-true, false≢true, false_from_ne_true}
 use Rattle.std.proofs.lemmas.List.{length-set}
 use Rattle.std.proofs.lemmas.List.Sums.{sum_by-cons}
@@ -16,7 +16,7 @@ use Rattle.sv_cache.specs.Brelse.{after_lend, after_release, released, freed}
 use Rattle.sv_cache.specs.Lawful.{IsLawful}
 use Rattle.sv_cache.proofs.Laws.{changed, changed-same, times-freed, lawful-release}
 use Rattle.sv_buf.specs.declared.state.State.{State}
-use Rattle.sv_buf.specs.View.{View, Device, Moving, weight, outs, moving_times, lent_times}
+use Rattle.sv_buf.specs.View.{View, Device, Moving, weight, outs, moving_times}
 use Rattle.sv_buf.specs.Changes.{calm_view, moving_view, device_view}
 use Rattle.sv_buf.specs.Running.{IsMoving, IsSeen, IsRunning}
 use Rattle.sv_buf.specs.Serving.{queued_again, IsRead}
