@@ -19,3 +19,4 @@ pub mod Weighing
 pub mod Joining
 pub mod Closing
 pub mod Flushing
+pub mod Serving

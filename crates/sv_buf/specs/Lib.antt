@@ -8,5 +8,6 @@ pub mod Stake
 pub mod Pending
 pub mod Delaying
 pub mod Resting
+pub mod Serving
 pub mod Closing
 pub mod Meeting

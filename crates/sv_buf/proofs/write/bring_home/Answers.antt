@@ -1,15 +1,16 @@
-use Rattle.std.proofs.Common.{◌*◌, ◌<◌, ◌∙◌, Some, sym, ap, subst, arith}
+use Rattle.std.proofs.Common.{◌*◌, ◌<◌, ◌∙◌, Some, refl, sym, ap, subst, arith}
 use Rattle.sv_dev.specs.Transfer.{overwritten}
 use Rattle.sv_turn.specs.Passes.{pass_view}
 use Rattle.sv_cache.specs.Brelse.{after_release}
 use Rattle.sv_cache.specs.declared.scenario.Release.TheVariants as how
-use Rattle.sv_buf.specs.View.{View}
-use Rattle.sv_buf.specs.Changes.{moving_view, calm_view, failed_view}
+use Rattle.sv_buf.specs.View.{View, weight}
+use Rattle.sv_buf.specs.Changes.{moving_view, calm_view}
 use Rattle.sv_buf.specs.Running.{seen_by}
+use Rattle.sv_buf.specs.Serving.{MayCount}
 use Rattle.sv_buf.proofs.Getting.{pending-step, pending-entered}
 use Rattle.sv_buf.proofs.Returning.{counted-inside, some-under}
 use Rattle.sv_buf.proofs.Writing.{brought, gone_out, out-under, written-ok, written-failed}
-use Rattle.sv_buf.proofs.write.write_home.Goals as goal
+use Rattle.sv_buf.proofs.write.bring_home.Goals as goal
 
 pub put_device-requires : goal.put_device-requires
 put_device-requires g c = record {
@@ -85,8 +86,8 @@ give_home-requires-clause-pending g c =
     (c.in-Ok.ensures.written ∙ ap (λ q. overwritten (g.D.Medium.content c.args.disk) (c.args.block * 1024) q) c.as_slice.ensures.value)
     c.in-Ok.ensures.nothing_else c.put_device.ensures.after c.put_device.ensures.lawful)
 
-pub give_unwritten-requires-clause-busy : goal.give_unwritten-requires-clause-busy
-give_unwritten-requires-clause-busy g c =
+pub give_home-requires-in-Err-clause-busy : goal.give_home-requires-in-Err-clause-busy
+give_home-requires-in-Err-clause-busy g c =
     let is = out-under (pass_view c.args.pass.now) (pass_view c.enter-state.new.pass) _ c.args.buffer c.args.block
     (Some c.args.bytes.items) c.enter-state.ensures.same.1 c.requires.out in
     let here = brought _ c.enter-state.result c.put_device.new.self (pass_view c.enter-state.new.pass) c.enter-state.ensures.holds.0 _
@@ -94,8 +95,8 @@ give_unwritten-requires-clause-busy g c =
     c.put_device.ensures.after in
     here.busy
 
-pub give_unwritten-requires-clause-out : goal.give_unwritten-requires-clause-out
-give_unwritten-requires-clause-out g c =
+pub give_home-requires-in-Err-clause-out : goal.give_home-requires-in-Err-clause-out
+give_home-requires-in-Err-clause-out g c =
     let is = out-under (pass_view c.args.pass.now) (pass_view c.enter-state.new.pass) _ c.args.buffer c.args.block
     (Some c.args.bytes.items) c.enter-state.ensures.same.1 c.requires.out in
     let here = brought _ c.enter-state.result c.put_device.new.self (pass_view c.enter-state.new.pass) c.enter-state.ensures.holds.0 _
@@ -103,8 +104,8 @@ give_unwritten-requires-clause-out g c =
     c.put_device.ensures.after in
     here.away
 
-pub give_unwritten-requires-clause-size : goal.give_unwritten-requires-clause-size
-give_unwritten-requires-clause-size g c =
+pub give_home-requires-in-Err-clause-size : goal.give_home-requires-in-Err-clause-size
+give_home-requires-in-Err-clause-size g c =
     let is = out-under (pass_view c.args.pass.now) (pass_view c.enter-state.new.pass) _ c.args.buffer c.args.block
     (Some c.args.bytes.items) c.enter-state.ensures.same.1 c.requires.out in
     let here = brought _ c.enter-state.result c.put_device.new.self (pass_view c.enter-state.new.pass) c.enter-state.ensures.holds.0 _
@@ -112,8 +113,8 @@ give_unwritten-requires-clause-size g c =
     c.put_device.ensures.after in
     c.requires.size ∙ sym here.size
 
-pub give_unwritten-requires-clause-few : goal.give_unwritten-requires-clause-few
-give_unwritten-requires-clause-few g c =
+pub give_home-requires-in-Err-clause-few : goal.give_home-requires-in-Err-clause-few
+give_home-requires-in-Err-clause-few g c =
     let is = out-under (pass_view c.args.pass.now) (pass_view c.enter-state.new.pass) _ c.args.buffer c.args.block
     (Some c.args.bytes.items) c.enter-state.ensures.same.1 c.requires.out in
     let here = brought _ c.enter-state.result c.put_device.new.self (pass_view c.enter-state.new.pass) c.enter-state.ensures.holds.0 _
@@ -121,8 +122,8 @@ give_unwritten-requires-clause-few g c =
     c.put_device.ensures.after in
     here.few
 
-pub give_unwritten-requires-clause-events : goal.give_unwritten-requires-clause-events
-give_unwritten-requires-clause-events g c =
+pub give_home-requires-in-Err-clause-events : goal.give_home-requires-in-Err-clause-events
+give_home-requires-in-Err-clause-events g c =
     let is = out-under (pass_view c.args.pass.now) (pass_view c.enter-state.new.pass) _ c.args.buffer c.args.block
     (Some c.args.bytes.items) c.enter-state.ensures.same.1 c.requires.out in
     let here = brought _ c.enter-state.result c.put_device.new.self (pass_view c.enter-state.new.pass) c.enter-state.ensures.holds.0 _
@@ -135,15 +136,25 @@ give_unwritten-requires-clause-events g c =
     c.enter-state.ensures.same.1 counted in
     omega (arith, below, c.requires.events)
 
-pub give_unwritten-requires-clause-pending : goal.give_unwritten-requires-clause-pending
-give_unwritten-requires-clause-pending g c =
+pub give_home-requires-in-Err-clause-pending : goal.give_home-requires-in-Err-clause-pending
+give_home-requires-in-Err-clause-pending g c =
     let is = out-under (pass_view c.args.pass.now) (pass_view c.enter-state.new.pass) _ c.args.buffer c.args.block
     (Some c.args.bytes.items) c.enter-state.ensures.same.1 c.requires.out in
+    let counts = subst (λ (v : View). MayCount v (g.N.NewView.next v)) (sym c.enter-state.ensures.same.1) c.requires.counts in
     pending-step _ c.enter-state.new.pass c.enter-state.result (record c.enter-state.result {
       core = after_release c.put_device.new.self c.args.buffer c.args.bytes.items how.FailedWrite;
-    }) (pass_view c.enter-state.new.pass) (failed_view (calm_view (pass_view c.enter-state.new.pass)))
+    }) (pass_view c.enter-state.new.pass) (g.N.NewView.next (pass_view c.enter-state.new.pass))
     (pending-entered _ c.enter-state.new.pass c.enter-state.result c.enter-state.ensures.holds.0 c.enter-state.ensures.inside
     c.enter-state.ensures.holds.1)
-    (λ others h. written-failed _ c.enter-state.result c.put_device.new.self (pass_view c.enter-state.new.pass) others _ c.args.buffer
+    (λ others h. written-failed _ c.enter-state.result c.put_device.new.self (pass_view c.enter-state.new.pass)
+    (g.N.NewView.next (pass_view c.enter-state.new.pass)) others _ c.args.buffer
     c.args.block c.args.bytes.items c.write_block-wrote.new.disk is h (sym c.args.bytes.ok.0 ∙ c.requires.size)
-    c.in-Err.ensures.torn c.in-Err.ensures.cause.failed c.put_device.ensures.after c.put_device.ensures.lawful)
+    c.in-Err.ensures.torn c.in-Err.ensures.cause.failed c.put_device.ensures.after c.put_device.ensures.lawful counts)
+
+pub give_home-requires-in-Err-clause-weight : goal.give_home-requires-in-Err-clause-weight
+give_home-requires-in-Err-clause-weight g c =
+    let counts = subst (λ (v : View). MayCount v (g.N.NewView.next v)) (sym c.enter-state.ensures.same.1) c.requires.counts in
+    ap weight counts.calm
+
+pub returns-in-Err-clause-err : goal.returns-in-Err-clause-err
+returns-in-Err-clause-err g c = (refl, c.give_home-in-Err.ensures.view ∙ ap g.N.NewView.next c.enter-state.ensures.same.1)
