@@ -20,3 +20,5 @@ pub mod Joining
 pub mod Closing
 pub mod Flushing
 pub mod Serving
+pub mod Ending
+pub mod Sharing

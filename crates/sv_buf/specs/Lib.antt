@@ -11,3 +11,5 @@ pub mod Resting
 pub mod Serving
 pub mod Closing
 pub mod Meeting
+pub mod Ending
+pub mod Sharing

@@ -12,7 +12,6 @@ mod ahead;
 mod cache;
 mod clear;
 mod close;
-mod contract;
 mod delay;
 mod event;
 mod flush;
@@ -27,6 +26,8 @@ mod rule;
 mod stake;
 mod state;
 mod take;
+#[cfg(test)]
+mod tests;
 mod view;
 mod worker;
 mod write;
