@@ -51,7 +51,7 @@ all-lines v fit all = record { once = λ b l. by b l (nat_lt b v.opening.sizes.b
         let parts = and_parts (nat_lt b v.opening.sizes.blocks) (nat_lt (l * 64) v.opening.sizes.block_size) e in
         let one : one_if (nat_lt b v.opening.sizes.blocks && nat_lt (l * 64) v.opening.sizes.block_size) ≡ 1 = ap one_if e in
         let some = noted-held b l v.lines (all.at b l (ltb-true b v.opening.sizes.blocks parts.0)
-            (ltb-true (l * 64) v.opening.sizes.block_size parts.1)) in
+        (ltb-true (l * 64) v.opening.sizes.block_size parts.1)) in
         omega (arith, one, some, fit.once b l)
     by b l false e =
         let none : one_if (nat_lt b v.opening.sizes.blocks && nat_lt (l * 64) v.opening.sizes.block_size) ≡ 0 = ap one_if e in
@@ -75,6 +75,7 @@ module _ {R S : Type 0} where
           home = has.fit.home;
         };
       }
+
       theirs : IsBack t worker
       theirs = record {
         own = is.own;

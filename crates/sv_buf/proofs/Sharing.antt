@@ -77,6 +77,7 @@ covered first count (suc n) b l below from to = by (λ lower. covered first coun
     or-true : (t : Bool) → (t || true) ≡ true
     or-true true = refl
     or-true false = refl
+
     by : (b < n → in_ranges (lines_below first count n) b l ≡ true) → (t : Bool) → (b == n) ≡ t
         → (covers b l (in_block first count n) || in_ranges (lines_below first count n) b l) ≡ true
     by again true e = ap (λ t. t || in_ranges (lines_below first count n) b l)
@@ -104,8 +105,12 @@ none-above first count (suc n) b l above = by (none-above first count n b l (ome
     by again true c = absurd (omega (arith, above, (covers-means b l (in_block first count n) c).0))
     by again false c =
         let none : cond {A = ℕ} (covers b l (in_block first count n)) 1 0 ≡ 0 = ap (λ t. cond {A = ℕ} t 1 0) c in
-        omega (arith, none, again,
-        sum_by-cons (λ r. cond {A = ℕ} (covers b l r) 1 0) (in_block first count n) (lines_below first count n))
+        omega (
+          arith,
+          none,
+          again,
+          sum_by-cons (λ r. cond {A = ℕ} (covers b l r) 1 0) (in_block first count n) (lines_below first count n),
+        )
 
 at-most-once : (first count n b l : ℕ) → count_by (covers b l) (lines_below first count n) ≤ 1
 unfolding lines_below
@@ -115,6 +120,7 @@ at-most-once first count (suc n) b l = by (at-most-once first count n b l) (cove
     all : count_by (covers b l) (in_block first count n ∷ lines_below first count n)
         ≡ cond {A = ℕ} (covers b l (in_block first count n)) 1 0 + count_by (covers b l) (lines_below first count n)
     all = sum_by-cons (λ r. cond {A = ℕ} (covers b l r) 1 0) (in_block first count n) (lines_below first count n)
+
     by : count_by (covers b l) (lines_below first count n) ≤ 1 → (t : Bool) → covers b l (in_block first count n) ≡ t
         → count_by (covers b l) (in_block first count n ∷ lines_below first count n) ≤ 1
     by again true c =
@@ -133,8 +139,16 @@ cut-can first half rest share few others = record {
   away = λ b l e. ap (λ (m : Lent). m b) share.idle;
   once = at-most-once (first + half) rest 10;
   some = (0, (first + half, covered (first + half) rest 10 0 (first + half) (omega arith) (omega arith) (omega (arith, others.some))));
-  more = (0, (first, (share.within 0 first (omega arith) (omega arith) (omega (arith, few.some)),
-      uncovered (first + half) rest 10 0 first (omega (arith, few.some)))));
+  more = (
+    0,
+    (
+      first,
+      (
+        share.within 0 first (omega arith) (omega arith) (omega (arith, few.some)),
+        uncovered (first + half) rest 10 0 first (omega (arith, few.some)),
+      ),
+    ),
+  );
 }
 
 -- what stays is a share, and so is what was cut off

@@ -25,8 +25,8 @@ use crate::write::put_now;
 use std::alloc::{AllocError, Global};
 use std::marker::Brand;
 use std::sync::Wait;
-use sv_form::Geometry;
 use sv_dev::Disk;
+use sv_form::Geometry;
 use sv_store::{Buf, LineRange, Refusal, Stake};
 use sv_turn::{CutView, Pass, Turn};
 

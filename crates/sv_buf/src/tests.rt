@@ -70,6 +70,8 @@ fn end<D: Medium>(
     requires room { vec_capacity passes ≡ 2 }
     requires all { HasAll cache.turn first }
     requires worker { IsWorkers cache.turn worker }
+    requires sizes { (first_view cache.turn).opening.sizes ≡ record { block_size = 1024; blocks = 10; first_data = 3 } }
+    ensures { length (D.content result.0) ≡ 10240 }
 {
     passes.push_reserved(first);
     passes.push_reserved(worker);

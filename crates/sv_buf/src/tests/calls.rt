@@ -204,11 +204,7 @@ fn writes(rt: HostRuntime) -> Result<(), TestFail> {
         Row {
             calls: &[(SetNow, 3, FAULT), (Read, 3, Ok(9))],
             fails: &[Fail::Write(1)],
-            log: &[
-                Access::Read(3072),
-                Access::Write(3072),
-                Access::Write(3072),
-            ],
+            log: &[Access::Read(3072), Access::Write(3072), Access::Write(3072)],
             closed: true,
         },
     ];

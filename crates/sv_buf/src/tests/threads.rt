@@ -1,5 +1,5 @@
 //! Sixteen threads over a few buffers: each has lines of its own, in ten blocks that are common to all.
-ghost use Rattle.std.specs.Prelude.{◌≡◌, ◌+◌, ◌-◌, ◌*◌, ◌/◌, ◌<◌, [], IfSome, IfNone, IsSome};
+ghost use Rattle.std.specs.Prelude.{◌≡◌, ◌+◌, ◌-◌, ◌*◌, ◌/◌, ◌<◌, [], IfSome, IfNone, IsSome, length};
 ghost use Rattle.std.specs.Thread.{IsSync};
 ghost use Rattle.sv_cache.specs.Cache.{IsBufferCount};
 ghost use Rattle.sv_turn.specs.Passes.{first_view};
@@ -13,7 +13,7 @@ use std::alloc::Global;
 use std::sync::Wait;
 use std::test::Fail as TestFail;
 use std::thread::{Threads, join};
-use sv_dev::MemDisk;
+use sv_dev::{Disk, MemDisk};
 use sv_store::{LineRange, Stake};
 
 // How often each thread puts a byte, and what its numbers begin with.
@@ -57,6 +57,20 @@ fn next_number(number: u64) -> u64 {
     number
         .wrapping_mul(6364136223846793005)
         .wrapping_add(1442695040888963407)
+}
+
+// Puts the number of its line, from 1, into that line of each block. It answers how often that failed.
+fn sign<R: Wait, S: Stake>(rt: &R, stake: &mut S, line: u8) -> u32
+    requires share { IsShare line 1 (S.origin stake.old) (S.held stake.old) (S.lent stake.old) }
+    requires line { line < 16 }
+    ensures kept { KeepsLines S.held S.lent S.origin stake.old stake.new }
+{
+    let mut wrong = 0u32;
+    for block in 0..10u32 {
+        let put = exchange(rt, stake, block, usize::from(line) * 64, line + 1);
+        wrong = wrong.saturating_add(u32::from(put.is_err()));
+    }
+    wrong
 }
 
 // Puts bytes at its line of blocks in a random order, and counts those that are not found again.
@@ -111,7 +125,8 @@ fn share<R: Threads + Wait + Sync, S: Stake + Drop>(
 {
     if count == 1 {
         let wrong = exchange_often(rt, &mut stake, first, load);
-        return (stake, Ok(wrong));
+        let unsigned = sign(rt, &mut stake, first);
+        return (stake, Ok(wrong.saturating_add(unsigned)));
     }
     let half = count / 2;
     let rest = count - half;
@@ -166,7 +181,11 @@ fn run<R: Threads + Wait + Sync>(
     first: CachePass<MemDisk>,
     worker: CachePass<MemDisk>,
     load: Load,
-) -> (CachePass<MemDisk>, CachePass<MemDisk>, Result<u32, NoMemory>)
+) -> (
+    CachePass<MemDisk>,
+    CachePass<MemDisk>,
+    Result<u32, NoMemory>,
+)
     requires all { HasAll cache.now.turn first }
     requires worker { IsWorkers cache.now.turn worker }
     requires sizes { (first_view cache.now.turn).opening.sizes ≡ record { block_size = 1024; blocks = 10; first_data = 3 } }
@@ -188,20 +207,42 @@ fn run<R: Threads + Wait + Sync>(
     (first, worker, wrong)
 }
 
-// How many bytes were not found again, and whether the close wrote all.
+// Whether the line of each thread begins with its number, in each block of the disk.
+fn is_signed<D: Disk>(disk: &mut D) -> bool
+    requires { length (D.content disk.old) ≡ 10240 }
+{
+    let mut right = true;
+    for block in 0..10u64 {
+        let mut bytes = [0u8; 1024];
+        right &= disk.read(block * 1024, &mut bytes).is_ok();
+        for line in 0..16u8 {
+            right &= bytes[usize::from(line) * 64] == line + 1;
+        }
+    }
+    right
+}
+
+// How many bytes were not found again, whether the close wrote all, and whether each line on the disk is what its thread last put.
 fn played<R: Threads + Wait + Sync>(
     rt: &R,
     alloc: Global,
     buffers: u32,
     load: Load,
-) -> Result<(u32, bool), NoMemory>
+) -> Result<(u32, bool, bool), NoMemory>
     requires { IsBufferCount buffers }
 {
     let disk = disk(alloc, &[])?;
     let (cache, first, worker, passes) = open(alloc, disk, buffers)?;
     let (first, worker, wrong) = run(rt, alloc, &cache, first, worker, load);
-    let (_disk, closed) = end(passes, cache, first, worker);
-    Ok((wrong?, closed.is_ok()))
+    let (mut disk, closed) = end(passes, cache, first, worker);
+    Ok((wrong?, closed.is_ok(), is_signed(&mut disk)))
+}
+
+#[test]
+fn sixteen_threads_share_one_cache(rt: HostRuntime) -> Result<(), TestFail> {
+    let load = Load { times: 0, seed: 0 };
+    assert_eq!(rt; played(&rt, rt.alloc(), 4, load)?, (0, true, true));
+    Ok(())
 }
 
 #[test]
@@ -210,7 +251,7 @@ fn sixteen_threads_over_four_buffers(rt: HostRuntime) -> Result<(), TestFail> {
         times: 1000,
         seed: 20261202,
     };
-    assert_eq!(rt; played(&rt, rt.alloc(), 4, load)?, (0, true));
+    assert_eq!(rt; played(&rt, rt.alloc(), 4, load)?, (0, true, true));
     Ok(())
 }
 
@@ -220,7 +261,7 @@ fn sixteen_threads_over_six_buffers(rt: HostRuntime) -> Result<(), TestFail> {
         times: 2250,
         seed: 20261203,
     };
-    assert_eq!(rt; played(&rt, rt.alloc(), 6, load)?, (0, true));
+    assert_eq!(rt; played(&rt, rt.alloc(), 6, load)?, (0, true, true));
     Ok(())
 }
 
@@ -230,6 +271,6 @@ fn sixteen_threads_over_eight_buffers(rt: HostRuntime) -> Result<(), TestFail> {
         times: 3000,
         seed: 20261204,
     };
-    assert_eq!(rt; played(&rt, rt.alloc(), 8, load)?, (0, true));
+    assert_eq!(rt; played(&rt, rt.alloc(), 8, load)?, (0, true, true));
     Ok(())
 }

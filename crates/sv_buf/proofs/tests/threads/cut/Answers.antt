@@ -13,7 +13,7 @@ part-requires g c = subst (λ (r : List LineRange). CanPart (g.S.Stake.held c.ar
 pub returns-in-Ok-clause-kept : goal.returns-in-Ok-clause-kept
 returns-in-Ok-clause-kept g c =
     let parts = subst (λ (r : List LineRange). Parts (g.S.Stake.held c.args.stake.now) r (g.S.Stake.held c.part.new.self)
-        (g.S.Stake.held c.in-Ok.other)) c.lines.ensures c.in-Ok.ensures.ok in
+    (g.S.Stake.held c.in-Ok.other)) c.lines.ensures c.in-Ok.ensures.ok in
     subst (λ o. IsShare c.args.first c.args.half o (g.S.Stake.held c.part.new.self) (g.S.Stake.lent c.part.new.self)) (sym c.part.ensures.origin)
     (subst (λ m. IsShare c.args.first c.args.half (g.S.Stake.origin c.args.stake.now) (g.S.Stake.held c.part.new.self) m)
     (sym c.part.ensures.lends) (cut-kept c.args.first c.args.half c.args.rest c.requires.share parts))
@@ -21,7 +21,7 @@ returns-in-Ok-clause-kept g c =
 pub returns-in-Ok-clause-given : goal.returns-in-Ok-clause-given
 returns-in-Ok-clause-given g c =
     let parts = subst (λ (r : List LineRange). Parts (g.S.Stake.held c.args.stake.now) r (g.S.Stake.held c.part.new.self)
-        (g.S.Stake.held c.in-Ok.other)) c.lines.ensures c.in-Ok.ensures.ok in
+    (g.S.Stake.held c.in-Ok.other)) c.lines.ensures c.in-Ok.ensures.ok in
     subst (λ o. IsShare (c.args.first + c.args.half) c.args.rest o (g.S.Stake.held c.in-Ok.other) (g.S.Stake.lent c.in-Ok.other))
     (sym c.in-Ok.ensures.new_origin)
     (cut-given c.args.first c.args.half c.args.rest c.requires.share parts c.in-Ok.ensures.new_lent)
