@@ -10,6 +10,7 @@ use Rattle.sv_links.proofs.Times.{one-if_same, none-if_other, times-push, times-
 use Rattle.sv_turn.specs.declared.pass.Pass.{Pass}
 use Rattle.sv_turn.specs.Passes.{pass_view, HasEntered}
 use Rattle.sv_cache.specs.declared.scenario.Scenario.TheVariants as met
+use Rattle.sv_cache.specs.declared.scenario.Release.{Release}
 use Rattle.sv_cache.specs.declared.scenario.Release.TheVariants as how
 use Rattle.sv_cache.specs.Cache.{Cache, Buffer, buffer_at, is_delayed, IsBusy}
 use Rattle.sv_cache.specs.Getblk.{after_search, renamed, IsCause, IsReused}
@@ -22,7 +23,7 @@ use Rattle.sv_buf.specs.View.{View, Device, Moving, weight, outs, moving_times, 
 use Rattle.sv_buf.specs.Changes.{calm_view, moving_view}
 use Rattle.sv_buf.specs.Running.{IsMoving, IsSeen, IsRunning}
 use Rattle.sv_buf.specs.Pending.{IsPending}
-use Rattle.sv_buf.proofs.Bytes.{current-as}
+use Rattle.sv_buf.proofs.Bytes.{TakesPlace, current-as}
 use Rattle.sv_buf.proofs.Steps.{step, seen-changed, queued-apart}
 use Rattle.sv_buf.proofs.Taking.{none_out, none_out-mine, apart-away, kept-changed, Takes, takes, same-away}
 
@@ -48,7 +49,7 @@ set-set (z ∷ zs) (suc k) x y = ap (λ (l : List Buffer). z ∷ l) (set-set zs 
 
 module _ {D : Type 0} where
   -- a free buffer whose block was looked for, with its bytes
-  hit-takes : (seen : D → Device) (s : State D) (v : View) (us : List View) (h : IsRunning seen s (v ∷ us)) (k b : ℕ)
+  pub hit-takes : (seen : D → Device) (s : State D) (v : View) (us : List View) (h : IsRunning seen s (v ∷ us)) (k b : ℕ)
       (noted : Option (List ℕ)) → IsCause s.core b (met.Hit k)
       → IfSome noted (λ y. ((buffer_at s.core k).valid ≡ true) × ((buffer_at s.core k).bytes ≡ Some y))
       → IfNone noted ((buffer_at s.core k).valid ≡ false)
@@ -285,65 +286,75 @@ module _ {D : Type 0} where
       at_most true = omega arith
       at_most false = omega arith
 
-  -- a buffer that was not read comes back with bytes that say nothing
-  pub unread : (seen : D → Device) (s : State D) (e : Cache D) (v : View) (us : List View) (k b : ℕ) (bytes : List ℕ)
+  -- a buffer that was to be read comes back
+  pub given-read : (seen : D → Device) (s : State D) (v : View) (us : List View) (k b : ℕ) (bytes : List ℕ) (way : Release)
       (h : IsRunning seen s (moving_view k b None v ∷ us)) → v.moving ≡ None
-      → e ≡ after_release s.core k bytes how.Invalid → IsLawful e → IsRunning seen (record s { core = e }) (v ∷ us)
-  unread seen s e v us k b bytes h calm is lawful =
-      subst (λ q. IsRunning seen (record s { core = q }) (v ∷ us)) (sym is) (at (subst (λ q. IsLawful q) is lawful))
+      → TakesPlace s.core h.kept.current k (released (buffer_at s.core k) bytes way)
+      → IsLawful (after_release s.core k bytes way)
+      → IsRunning seen (record s { core = after_release s.core k bytes way }) (v ∷ us)
+  given-read seen s v us k b bytes way h calm place legal =
+      let mine = All-head (IsSeen s.core h.kept.current h.kept.device h.kept.opening) (moving_view k b None v) us h.each in
+      let out : outs k (moving_view k b None v) ≡ lent_times k v + 1 = ap (λ n. lent_times k v + n) (one-if_same k k refl) in
+      let whole = h.one_state.once k in
+      let part = sum_by-cons (outs k) (moving_view k b None v) us in
+      let most = at_most (nat_lt k (length s.core.buffers)) in
+      let still : moving_times k v.moving ≡ 0 = ap (moving_times k) calm in
+      let none : outs k v ≡ 0 = omega arith in
+      let as_v : IsSeen s.core h.kept.current h.kept.device h.kept.opening v = record {
+        opened = mine.opened;
+        lent = mine.lent;
+        moves = subst (λ m. IfSome m (IsMoving s.core h.kept.current)) (sym calm) tt;
+        device_seen = mine.device_seen;
+        lines = mine.lines;
+      } in
+      step seen s (record s { core = after_release s.core k bytes way }) (moving_view k b None v) v us h
+      (kept-changed seen s h.kept k (released (buffer_at s.core k) bytes way) (freed s.core.free k way) place legal) refl
+      (record {
+        buffers = length-set s.core.buffers k (released (buffer_at s.core k) bytes way);
+        sizes = refl;
+        state = λ j. let quiet : moving_times j v.moving ≡ 0 = ap (moving_times j) calm in omega
+            (arith, times-freed s.core.free k j way);
+        device = refl;
+        lines = λ f l. refl;
+        workers = refl;
+        queued = queued-apart s.core k (released (buffer_at s.core k) bytes way) (freed s.core.free k way)
+            s.core.device s.requests.waiting (omega arith) h.one_state.queued;
+      })
+      (λ low. (omega arith, omega arith))
+      (seen-changed s.core h.kept.current h.kept.device (after_release s.core k bytes way) h.kept.current h.kept.device
+      h.kept.opening v
+      (apart-away s.core h.kept.current k (released (buffer_at s.core k) bytes way) (freed s.core.free k way)
+      s.core.device v none) mine.lines mine.device_seen as_v)
+      (λ u below q. seen-changed s.core h.kept.current h.kept.device (after_release s.core k bytes way) h.kept.current
+      h.kept.device h.kept.opening u
+      (apart-away s.core h.kept.current k (released (buffer_at s.core k) bytes way) (freed s.core.free k way)
+      s.core.device u
+      (none_out seen s (moving_view k b None v) us h k (omega arith) u below)) q.lines q.device_seen q)
     where
       at_most : (t : Bool) → one_if t ≤ 1
       at_most true = omega arith
       at_most false = omega arith
 
-      at : IsLawful (after_release s.core k bytes how.Invalid) → IsRunning seen (record s
-          { core = after_release s.core k bytes how.Invalid }) (v ∷ us)
-      at legal =
-          let mine = All-head (IsSeen s.core h.kept.current h.kept.device h.kept.opening) (moving_view k b None v) us h.each in
-          let inside = named-inside s.core k b mine.moves.out.named in
-          let out : outs k (moving_view k b None v) ≡ lent_times k v + 1 = ap (λ n. lent_times k v + n) (one-if_same k k refl) in
-          let whole = h.one_state.once k in
-          let part = sum_by-cons (outs k) (moving_view k b None v) us in
-          let most = at_most (nat_lt k (length s.core.buffers)) in
-          let still : moving_times k v.moving ≡ 0 = ap (moving_times k) calm in
-          let none : outs k v ≡ 0 = omega arith in
-          let as_v : IsSeen s.core h.kept.current h.kept.device h.kept.opening v = record {
-            opened = mine.opened;
-            lent = mine.lent;
-            moves = subst (λ m. IfSome m (IsMoving s.core h.kept.current)) (sym calm) tt;
-            device_seen = mine.device_seen;
-            lines = mine.lines;
-          } in
-          step seen s (record s { core = after_release s.core k bytes how.Invalid }) (moving_view k b None v) v us h
-          (kept-changed seen s h.kept k (released (buffer_at s.core k) bytes how.Invalid) (freed s.core.free k how.Invalid)
-          (record {
-            inside = inside;
-            in_range = h.kept.bytes.in_range k;
-            home = λ f y named valid has. absurd (false≢true valid);
-            valid = λ d. absurd (false≢true d);
-            stays = λ d. absurd (false≢true (sym mine.moves.on_device ∙ d));
-          }) legal) refl
-          (record {
-            buffers = length-set s.core.buffers k (released (buffer_at s.core k) bytes how.Invalid);
-            sizes = refl;
-            state = λ j. let quiet : moving_times j v.moving ≡ 0 = ap (moving_times j) calm in omega
-                (arith, times-freed s.core.free k j how.Invalid);
-            device = refl;
-            lines = λ f l. refl;
-            workers = refl;
-            queued = queued-apart s.core k (released (buffer_at s.core k) bytes how.Invalid) (freed s.core.free k how.Invalid)
-                s.core.device s.requests.waiting (omega arith) h.one_state.queued;
-          })
-          (λ low. (omega arith, omega arith))
-          (seen-changed s.core h.kept.current h.kept.device (after_release s.core k bytes how.Invalid) h.kept.current h.kept.device
-          h.kept.opening v
-          (apart-away s.core h.kept.current k (released (buffer_at s.core k) bytes how.Invalid) (freed s.core.free k how.Invalid)
-          s.core.device v none) mine.lines mine.device_seen as_v)
-          (λ u below q. seen-changed s.core h.kept.current h.kept.device (after_release s.core k bytes how.Invalid) h.kept.current
-          h.kept.device h.kept.opening u
-          (apart-away s.core h.kept.current k (released (buffer_at s.core k) bytes how.Invalid) (freed s.core.free k how.Invalid)
-          s.core.device u
-          (none_out seen s (moving_view k b None v) us h k (omega arith) u below)) q.lines q.device_seen q)
+  -- it comes back with bytes that say nothing
+  pub unread-place : (seen : D → Device) (s : State D) (v : View) (us : List View) (k b : ℕ) (bytes : List ℕ)
+      (h : IsRunning seen s (moving_view k b None v ∷ us))
+      → TakesPlace s.core h.kept.current k (released (buffer_at s.core k) bytes how.Invalid)
+  unread-place seen s v us k b bytes h =
+      let mine = All-head (IsSeen s.core h.kept.current h.kept.device h.kept.opening) (moving_view k b None v) us h.each in
+      record {
+        inside = named-inside s.core k b mine.moves.out.named;
+        in_range = h.kept.bytes.in_range k;
+        home = λ f y named valid has. absurd (false≢true valid);
+        valid = λ d. absurd (false≢true d);
+        stays = λ d. absurd (false≢true (sym mine.moves.on_device ∙ d));
+      }
+
+  pub unread : (seen : D → Device) (s : State D) (e : Cache D) (v : View) (us : List View) (k b : ℕ) (bytes : List ℕ)
+      (h : IsRunning seen s (moving_view k b None v ∷ us)) → v.moving ≡ None
+      → e ≡ after_release s.core k bytes how.Invalid → IsLawful e → IsRunning seen (record s { core = e }) (v ∷ us)
+  unread seen s e v us k b bytes h calm is lawful =
+      subst (λ q. IsRunning seen (record s { core = q }) (v ∷ us)) (sym is)
+      (given-read seen s v us k b bytes how.Invalid h calm (unread-place seen s v us k b bytes h) (subst (λ q. IsLawful q) is lawful))
 
 module _ {R D : Type 0} where
   -- a buffer that was found by its block, lent as it is

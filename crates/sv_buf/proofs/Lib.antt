@@ -12,7 +12,13 @@ pub mod Cutting
 pub mod Written
 pub mod Delaying
 pub mod Writing
+pub mod Clearing
+pub mod Queueing
 pub mod Fitting
 pub mod Weighing
 pub mod Joining
 pub mod Closing
+pub mod Flushing
+pub mod Serving
+pub mod Ending
+pub mod Sharing

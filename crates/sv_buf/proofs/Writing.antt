@@ -1,5 +1,5 @@
 -- A block is written with the device out.
-use Rattle.std.proofs.Common.{◌≡◌, ◌+◌, ◌*◌, ◌<◌, ◌≤◌, ℕ, Bool, true, false, List, ◌∷◌, length, set, Option, Some, None, Result, Ok, Err, is_some, IfSome, OnOk, IfErr, refl, sym, ap, ◌∙◌, subst, arith, inl, inr, nat_lt}
+use Rattle.std.proofs.Common.{◌≡◌, ◌+◌, ◌*◌, ◌<◌, ◌≤◌, ℕ, Bool, true, false, List, ◌∷◌, length, set, Option, Some, None, Result, Ok, Err, is_some, IfSome, OnOk, IfOk, IfErr, refl, sym, ap, ◌∙◌, subst, arith, inl, inr, nat_lt}
 use Rattle.std.proofs.lemmas.Bool.{false≢true}
 use Rattle.std.proofs.lemmas.List.{length-set}
 use Rattle.std.proofs.lemmas.List.Sums.{sum_by-cons}
@@ -26,6 +26,7 @@ use Rattle.sv_buf.specs.declared.state.State.{State}
 use Rattle.sv_buf.specs.View.{View, Device, weight, devices, held_of, lent_of, outs, lent_times, moving_times}
 use Rattle.sv_buf.specs.Changes.{moving_view, device_view, calm_view, failed_view, loans_without, put_view, written_view}
 use Rattle.sv_buf.specs.Delaying.{delayed_at, IsClean}
+use Rattle.sv_buf.specs.Serving.{MayCount}
 use Rattle.sv_buf.specs.Running.{IsLent, IsMoving, IsSeen, IsRunning, IsFit}
 use Rattle.sv_buf.proofs.Bytes.{current-as}
 use Rattle.sv_buf.proofs.Steps.{FaultsMove, step, seen-changed, queued-apart}
@@ -206,14 +207,14 @@ module _ {D : Type 0} where
       (transferred-clean s.core q.kept.current q.kept.device (seen disk) k b bytes way clean named mine.moves.noted at.0 at.1)
       (λ low. (omega (arith, faults), omega (arith, faults))) legal)
 
-  -- the write of a block failed: the fault is counted here, and the block is still to be written
-  pub written-failed : (seen : D → Device) (s : State D) (e : Cache D) (w : View) (us : List View) (d : Device) (k b : ℕ)
+  -- the write of a block failed: the fault may be counted here, and the block is still to be written
+  pub written-failed : (seen : D → Device) (s : State D) (e : Cache D) (w x : View) (us : List View) (d : Device) (k b : ℕ)
       (bytes : List ℕ) (disk : D) → w ≡ device_view d (moving_view k b (Some bytes) (calm_view w)) → IsRunning seen s (w ∷ us)
       → length bytes ≡ 1024 → IsTorn d.content (b * 1024) 1024 (seen disk).content → Rose d.faults (seen disk).faults
-      → e ≡ record s.core { device = Some disk } → IsLawful e
-      → IsRunning seen (record s { core = after_release e k bytes how.FailedWrite }) (failed_view (calm_view w) ∷ us)
-  written-failed seen s e w us d k b bytes disk is h size torn rose after lawful =
-      let q : IsRunning seen s (device_view d (moving_view k b (Some bytes) (calm_view w)) ∷ us) = subst (λ x. IsRunning seen s (x ∷ us))
+      → e ≡ record s.core { device = Some disk } → IsLawful e → MayCount w x
+      → IsRunning seen (record s { core = after_release e k bytes how.FailedWrite }) (x ∷ us)
+  written-failed seen s e w x us d k b bytes disk is h size torn rose after lawful counts =
+      let q : IsRunning seen s (device_view d (moving_view k b (Some bytes) (calm_view w)) ∷ us) = subst (λ y. IsRunning seen s (y ∷ us))
       is h in
       let mine = All-head (IsSeen s.core q.kept.current q.kept.device q.kept.opening)
       (device_view d (moving_view k b (Some bytes) (calm_view w))) us q.each in
@@ -226,14 +227,16 @@ module _ {D : Type 0} where
       let lawful_home : IsLawful (record s.core { device = Some disk }) = subst (λ x. IsLawful x) after lawful in
       let legal = lawful-release (record s.core { device = Some disk }) k bytes how.FailedWrite lawful_home here.busy
       (size ∙ sym here.size) in
-      subst (λ x. IsRunning seen (record s { core = after_release x k bytes how.FailedWrite }) (failed_view (calm_view w) ∷ us)) (sym after)
-      (ends-at seen s (calm_view w) us d k b bytes q disk (w.faults + 1) how.FailedWrite refl refl
+      subst (λ y. IsRunning seen (record s { core = after_release y k bytes how.FailedWrite }) (x ∷ us)) (sym after)
+      (subst (λ y. IsRunning seen (record s { core = after_release (record s.core { device = Some disk }) k bytes how.FailedWrite })
+      (y ∷ us)) (sym counts.calm)
+      (ends-at seen s (calm_view w) us d k b bytes q disk counts.faults how.FailedWrite refl refl
       (transferred-failed s.core q.kept.current q.kept.device (seen disk) k b bytes named mine.moves.noted at)
-      (λ low. moved rose low) legal)
+      (λ low. moved rose low) legal))
     where
       moved : Rose d.faults (seen disk).faults → (seen disk).faults < last_count
-          → (d.faults + (w.faults + 1) ≤ (seen disk).faults + w.faults) × (d.faults ≤ (seen disk).faults)
-      moved (inl more) low = (omega arith, omega arith)
+          → (d.faults + counts.faults ≤ (seen disk).faults + w.faults) × (d.faults ≤ (seen disk).faults)
+      moved (inl more) low = (omega (arith, counts.few), omega arith)
       moved (inr last) low = absurd (omega arith)
 
   -- a block that is lent comes back with new bytes, and its buffer is in transfer at once
@@ -281,7 +284,7 @@ pub out-under : (v w : View) (d : Device) (k b : ℕ) (o : Option (List ℕ)) �
     → w ≡ device_view d (moving_view k b o (calm_view w))
 out-under v w d k b o p out = p ∙ (out ∙ ap (λ q. device_view d (moving_view k b o (calm_view q))) (sym p))
 
-calm-is : (v : View) → v.moving ≡ None → v.device ≡ None → calm_view v ≡ v
+pub calm-is : (v : View) → v.moving ≡ None → v.device ≡ None → calm_view v ≡ v
 calm-is v m h = ap (λ o. record v { moving = o; device = None }) (sym m) ∙ ap (λ o. record v { device = o }) (sym h)
 
 -- a block that is written at once, from where its pass has it in transfer to where it is done
@@ -302,6 +305,10 @@ brings-out v w x d k b c bytes items first second same are calm home =
 pub on_ok : {T E : Type 0} (r : Result T E) (P Q : Type 0) → (P → Q) → OnOk r P → OnOk r Q
 on_ok (Ok x) P Q f p = f p
 on_ok (Err e) P Q f p = tt
+
+pub if_ok : {T E : Type 0} (r : Result T E) (P Q : T → Type 0) → ((x : T) → P x → Q x) → IfOk r P → IfOk r Q
+if_ok (Ok x) P Q f p = f x p
+if_ok (Err e) P Q f p = tt
 
 pub if_err : {T E : Type 0} (r : Result T E) (P Q : E → Type 0) → ((e : E) → P e → Q e) → IfErr r P → IfErr r Q
 if_err (Ok x) P Q f p = tt

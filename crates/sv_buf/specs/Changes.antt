@@ -24,6 +24,14 @@ lent_view k b bytes v = record v { loans = record { buffer = k; block = b; bytes
 abbrev pub failed_view : View → View
 failed_view v = record v { faults = v.faults + 1 }
 
+-- it has asked for writes
+abbrev pub forced_view : View → View
+forced_view v = record v { forced = true }
+
+-- it has asked for writes, of which so many have failed
+abbrev pub flushed_view : ℕ → View → View
+flushed_view n v = record v { faults = v.faults + n; forced = true }
+
 -- the loans without those of block b
 abbrev pub loans_without : ℕ → List Lending → List Lending
 loans_without b xs = filter (λ x. not (x.block == b)) xs

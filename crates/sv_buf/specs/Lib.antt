@@ -7,4 +7,9 @@ pub mod Start
 pub mod Stake
 pub mod Pending
 pub mod Delaying
+pub mod Resting
+pub mod Serving
 pub mod Closing
+pub mod Meeting
+pub mod Ending
+pub mod Sharing

@@ -1,5 +1,5 @@
 // The cache that threads share.
-ghost use Rattle.std.specs.Prelude.{◌≡◌, ◌+◌, ◌*◌, length, IfOk};
+ghost use Rattle.std.specs.Prelude.{◌≡◌, ◌+◌, ◌*◌, ◌<◌, length, IfOk};
 ghost use Rattle.sv_form.specs.Geometry.{IsGeometry};
 ghost use Rattle.sv_cache.specs.Cache.{IsBufferCount};
 ghost use Rattle.sv_turn.specs.Passes.{pass_view, IsOut, IsPassOf, first_view, turn_events};
@@ -32,6 +32,7 @@ pub struct Cache<D: Medium> {
     ghost same_sizes: { (first_view turn).opening.sizes ≡ sizes },
     ghost whole: { first_view turn ≡ whole_view (first_view turn).opening },
     ghost counted: { (first_view turn).opening.buffers ≡ buffers },
+    ghost some: { 0 < buffers },
     ghost events: { turn_events turn ≡ (first_view turn).opening.buffers + 3 },
 }
 
@@ -119,6 +120,7 @@ fn share<D: Medium>(
     requires sized { IsGeometry sizes }
     requires same_sizes { (first_view turn).opening.sizes ≡ sizes }
     requires counted { (first_view turn).opening.buffers ≡ buffers }
+    requires some { 0 < buffers }
     requires events { turn_events turn ≡ (first_view turn).opening.buffers + 3 }
     requires length { length (first_view turn).opening.disk.content ≡ (first_view turn).opening.sizes.blocks *
         (first_view turn).opening.sizes.block_size }

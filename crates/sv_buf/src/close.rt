@@ -1,11 +1,8 @@
 // The end of a cache: what is still to be written is written, and the device comes back.
-ghost use Rattle.std.specs.Prelude.{◌≡◌, ◌+◌, ◌<◌, ℕ, List, [], ◌∷◌, ◌++◌, length, None, Some, IsSome, vec_len};
-ghost use Rattle.std.specs.Prelude.{is_err, nat_lt, slice_set};
+ghost use Rattle.std.specs.Prelude.{◌≡◌, ◌+◌, ◌<◌, ℕ, List, [], ◌∷◌, ◌++◌, length, is_err, nat_lt};
 ghost use Rattle.std.specs.List.{All};
-ghost use Rattle.sv_links.specs.Arrangement.{one_if, without};
+ghost use Rattle.sv_links.specs.Arrangement.{one_if};
 ghost use Rattle.sv_turn.specs.Passes.{pass_view, IsOut, IsPassOf, first_view};
-ghost use Rattle.sv_cache.specs.Cache.{buffer_at, IsBusy};
-ghost use Rattle.sv_cache.specs.Lawful.{IsLawful};
 ghost use Rattle.sv_buf.specs.View.{View, held_of};
 ghost use Rattle.sv_buf.specs.Running.{IsRunning, seen_by};
 ghost use Rattle.sv_buf.specs.Closing.{IsQuiet, IsBack, IsWritten, IsClosed, SameShape, AreAllLines};
@@ -15,33 +12,12 @@ use crate::cache::{Cache, CachePass};
 use crate::medium::Medium;
 use crate::rule::Running;
 use crate::state::State;
+use crate::take::take_out;
 use crate::write::write_block;
 use std::marker::Brand;
-use sv_cache::{CacheCore, Release, Scenario};
+use sv_cache::{CacheCore, Release};
 use sv_dev::Failed;
 use sv_turn::{Pass, Turn};
-
-// Takes a buffer whose bytes are in, free or queued, and moves them out.
-fn take_out<D>(core: &mut CacheCore<D>, buffer: u32, block: u32) -> Vec<u8>
-    requires lawful { IsLawful core.old }
-    requires named { (buffer_at core.old buffer).block ≡ Some block }
-    requires home { IsSome (buffer_at core.old buffer).bytes }
-    ensures bytes { (buffer_at core.old buffer).bytes ≡ Some result.items }
-    ensures size { vec_len result ≡ core.old.geometry.block_size }
-    ensures after { core.new ≡ record core.old {
-      buffers = slice_set core.old.buffers buffer (record (buffer_at core.old buffer) { bytes = None });
-      free = without buffer core.old.free;
-    } }
-    ensures busy { IsBusy core.new buffer }
-{
-    match core.attempt(block) {
-        Scenario::Hit(found) => core.lend(found),
-        Scenario::Busy(found) => core.lend(found),
-        Scenario::Taken(_) => unreachable!(),
-        Scenario::Delayed(_) => unreachable!(),
-        Scenario::Empty => unreachable!(),
-    }
-}
 
 // Writes a buffer, where it is still to be written. After a failure it still is.
 fn write_back<D: Medium>(core: &mut CacheCore<D>, disk: &mut D, buffer: u32) -> Result<(), Failed>

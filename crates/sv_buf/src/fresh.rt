@@ -1,8 +1,9 @@
 // How a block is lent that is filled with zeros.
-ghost use Rattle.std.specs.Prelude.{◌≡◌, ◌+◌, ◌<◌, ℕ, length, replicate, true, false, None, Some, vec_len};
+ghost use Rattle.std.specs.Prelude.{◌≡◌, ◌+◌, ◌<◌, ℕ, length, replicate, true, false, None, Some, IfOk, IfErr, vec_len};
 ghost use Rattle.sv_turn.specs.Passes.{pass_view, IsOut, IsPassOf, IsSamePass, turn_events};
 ghost use Rattle.sv_cache.specs.Cache.{buffer_at};
-ghost use Rattle.sv_buf.specs.Changes.{calm_view, moving_view, lent_view, filled_view};
+ghost use Rattle.sv_store.specs.declared.refusal.Refusal.TheVariants.{Fault};
+ghost use Rattle.sv_buf.specs.Changes.{calm_view, failed_view, moving_view, lent_view, filled_view};
 ghost use Rattle.sv_buf.specs.Delaying.{NotesBlock};
 ghost use Rattle.sv_buf.specs.Running.{IsRunning, IsFit, seen_by};
 ghost use Rattle.sv_buf.specs.Pending.{IsPending};
@@ -15,7 +16,7 @@ use crate::rule::Running;
 use crate::state::State;
 use std::marker::Brand;
 use std::sync::Wait;
-use sv_store::Buf;
+use sv_store::{Buf, Refusal};
 use sv_turn::{Pass, Turn};
 
 // As many zero bytes, in the same place.
@@ -60,7 +61,7 @@ pub fn get_zeros<R: Wait, D: Medium>(
     turn: &Turn<Running<D>>,
     pass: &mut Pass<Running<D>>,
     block: u32,
-) -> Buf
+) -> Result<Buf, Refusal>
     requires own { IsPassOf turn.now pass.old }
     requires away { IsOut pass.old }
     requires fit { IsFit (pass_view pass.old) }
@@ -68,11 +69,14 @@ pub fn get_zeros<R: Wait, D: Medium>(
     requires events { turn_events turn.now ≡ (pass_view pass.old).opening.buffers + 3 }
     requires whole { NotesBlock (pass_view pass.old) block }
     ensures same { IsSamePass pass.old pass.new × IsOut pass.new }
-    ensures view { (k : ℕ) × (pass_view pass.new ≡ lent_view k block result.bytes (filled_view block result.bytes
-        (calm_view (pass_view pass.old)))) }
-    ensures block { result.block ≡ block }
-    ensures zeros { result.bytes ≡ replicate 1024 0 }
+    ensures view { IfOk result (λ buf. (k : ℕ) × (pass_view pass.new ≡ lent_view k block buf.bytes (filled_view block buf.bytes
+        (calm_view (pass_view pass.old))))) }
+    ensures block { IfOk result (λ buf. buf.block ≡ block) }
+    ensures zeros { IfOk result (λ buf. buf.bytes ≡ replicate 1024 0) }
+    ensures err { IfErr result (λ e. (e ≡ Fault) × (pass_view pass.new ≡ failed_view (calm_view (pass_view pass.old)))) }
 {
-    let (state, buffer, bytes) = getblk(rt, turn, pass, block);
-    lend_zeros(turn, pass, state, buffer, block, bytes)
+    match getblk(rt, turn, pass, block) {
+        Ok((state, buffer, bytes)) => Ok(lend_zeros(turn, pass, state, buffer, block, bytes)),
+        Err(refusal) => Err(refusal),
+    }
 }

@@ -155,6 +155,8 @@ pub fn get<R: Wait, D: Medium>(
         (held_of (pass_view pass.old).lines) block buf) }
     ensures err { IfErr result (λ e. (e ≡ Fault) × (pass_view pass.new ≡ failed_view (calm_view (pass_view pass.old)))) }
 {
-    let (state, buffer, bytes) = getblk(rt, turn, pass, block);
-    lend_or_read(rt, turn, pass, state, buffer, block, bytes)
+    match getblk(rt, turn, pass, block) {
+        Ok((state, buffer, bytes)) => lend_or_read(rt, turn, pass, state, buffer, block, bytes),
+        Err(refusal) => Err(refusal),
+    }
 }

@@ -12,7 +12,9 @@ ghost use Rattle.sv_store.specs.Causes.{HasFault};
 ghost use Rattle.sv_buf.specs.Running.{IsFit};
 ghost use Rattle.sv_buf.specs.Stake.{pass_held, pass_lent, pass_faults, pass_forced, pass_origin};
 
+use crate::ahead::get_ahead;
 use crate::cache::{Cache, CachePass};
+use crate::flush::flush_all;
 use crate::fresh::get_zeros;
 use crate::get::get;
 use crate::give::{take_back, take_put};
@@ -23,11 +25,14 @@ use crate::write::put_now;
 use std::alloc::{AllocError, Global};
 use std::marker::Brand;
 use std::sync::Wait;
+use sv_dev::Disk;
 use sv_form::Geometry;
-use sv_store::{Buf, LineRange, Refusal};
+use sv_store::{Buf, LineRange, Refusal, Stake};
 use sv_turn::{CutView, Pass, Turn};
 
-/// The right to certain lines of a cache. What a stake holds changes only by its own calls, whatever other threads do.
+/// The right to certain lines of a cache. What a stake holds changes only by its own calls, whatever other threads do. A stake that is
+/// dropped takes its lines with it: the cache cannot be closed any more.
+#[derive(Drop)]
 pub struct CacheStake<'a, D: Medium> {
     pub(crate) cache: &'a Cache<D>,
     pub(crate) pass: Pass<Running<D>>,
@@ -37,99 +42,46 @@ pub struct CacheStake<'a, D: Medium> {
     ghost opened: { (pass_view pass).opening ≡ (first_view cache.now.turn).opening },
 }
 
-impl<'a, D: Medium> CacheStake<'a, D> {
-    /// The sizes of the disk. Only lines of its blocks are held, each with 64 bytes, and the count of faults is a `u64`.
-    pub fn geometry(&self) -> Geometry
-        ensures value { result ≡ (pass_origin self.now.pass).sizes }
-        ensures sizes { IsGeometry result }
-        ensures range { InRange result (pass_held self.now.pass) }
-        ensures count { pass_faults self.now.pass < 2 ^ 64 }
-    {
+impl<'a, D: Disk> Stake for CacheStake<'a, D> {
+    ghost held = { λ s. pass_held s.pass };
+
+    ghost lent = { λ s. pass_lent s.pass };
+
+    ghost faults = { λ s. pass_faults s.pass };
+
+    ghost forced = { λ s. pass_forced s.pass };
+
+    ghost origin = { λ s. pass_origin s.pass };
+
+    fn geometry(&self) -> Geometry {
         self.cache.sizes
     }
 
-    /// Lends a block with its bytes (Bach, algorithm bread). Lines that the stake does not hold have any bytes.
-    pub fn bread<R: Wait>(&mut self, rt: &R, b: u32) -> Result<Buf, Refusal>
-        requires { CanGet (pass_held self.old.pass) (pass_lent self.old.pass) b }
-        ensures ok { IfOk result (Gets (pass_origin self.old.pass) (pass_held self.old.pass) b) }
-        ensures lends { IfOk result (λ buf. pass_lent self.new.pass ≡ with b buf.bytes (pass_lent self.old.pass)) }
-        ensures err { OnErr result (pass_lent self.new.pass ≡ pass_lent self.old.pass) }
-        ensures held { pass_held self.new.pass ≡ pass_held self.old.pass }
-        ensures forced { pass_forced self.new.pass ≡ pass_forced self.old.pass }
-        ensures origin { pass_origin self.new.pass ≡ pass_origin self.old.pass }
-        ensures cause { HasFault (pass_faults self.old.pass) (pass_faults self.new.pass) result }
-    {
+    fn bread<R: Wait>(&mut self, rt: &R, b: u32) -> Result<Buf, Refusal> {
         get(rt, &self.cache.turn, &mut self.pass, b)
     }
 
-    /// Lends a block of zero bytes, which are its bytes from then on; the block is not read.
-    pub fn fresh<R: Wait>(&mut self, rt: &R, b: u32) -> Result<Buf, Refusal>
-        requires { CanFresh (pass_origin self.old.pass) (pass_held self.old.pass) (pass_lent self.old.pass) b }
-        ensures ok { IfOk result (GetsZeros (pass_origin self.old.pass) b) }
-        ensures lends { IfOk result (λ buf. pass_lent self.new.pass ≡ with b buf.bytes (pass_lent self.old.pass)) }
-        ensures puts { IfOk result (λ buf. pass_held self.new.pass ≡ put b buf.bytes (pass_held self.old.pass)) }
-        ensures err { OnErr result (pass_lent self.new.pass ≡ pass_lent self.old.pass) }
-        ensures held { OnErr result (pass_held self.new.pass ≡ pass_held self.old.pass) }
-        ensures forced { pass_forced self.new.pass ≡ pass_forced self.old.pass }
-        ensures origin { pass_origin self.new.pass ≡ pass_origin self.old.pass }
-        ensures cause { HasFault (pass_faults self.old.pass) (pass_faults self.new.pass) result }
-    {
-        Ok(get_zeros(rt, &self.cache.turn, &mut self.pass, b))
+    fn breada<R: Wait>(&mut self, rt: &R, b: u32, next: u32) -> Result<Buf, Refusal> {
+        get_ahead(rt, &self.cache.turn, &mut self.pass, b, next)
     }
 
-    /// Takes a block back unchanged (Bach, algorithm brelse). It runs no transfer, so no fault is counted.
-    pub fn brelse<R: Wait>(&mut self, rt: &R, buf: Buf)
-        requires { CanReturn (pass_lent self.old.pass) buf }
-        ensures lends { pass_lent self.new.pass ≡ without buf.block (pass_lent self.old.pass) }
-        ensures held { pass_held self.new.pass ≡ pass_held self.old.pass }
-        ensures forced { pass_forced self.new.pass ≡ pass_forced self.old.pass }
-        ensures origin { pass_origin self.new.pass ≡ pass_origin self.old.pass }
-        ensures faults { pass_faults self.new.pass ≡ pass_faults self.old.pass }
-    {
+    fn fresh<R: Wait>(&mut self, rt: &R, b: u32) -> Result<Buf, Refusal> {
+        get_zeros(rt, &self.cache.turn, &mut self.pass, b)
+    }
+
+    fn brelse<R: Wait>(&mut self, rt: &R, buf: Buf) {
         take_back(rt, &self.cache.turn, &mut self.pass, buf);
     }
 
-    /// Takes a block back with new bytes, to be written later (Bach's delayed write). It runs no transfer, so no fault is
-    /// counted.
-    pub fn bdwrite<R: Wait>(&mut self, rt: &R, buf: Buf)
-        requires { CanPut (pass_held self.old.pass) (pass_lent self.old.pass) buf }
-        ensures held { pass_held self.new.pass ≡ put buf.block buf.bytes (pass_held self.old.pass) }
-        ensures lends { pass_lent self.new.pass ≡ without buf.block (pass_lent self.old.pass) }
-        ensures forced { pass_forced self.new.pass ≡ pass_forced self.old.pass }
-        ensures origin { pass_origin self.new.pass ≡ pass_origin self.old.pass }
-        ensures faults { pass_faults self.new.pass ≡ pass_faults self.old.pass }
-    {
+    fn bdwrite<R: Wait>(&mut self, rt: &R, buf: Buf) {
         take_put(rt, &self.cache.turn, &mut self.pass, buf);
     }
 
-    /// Takes a block back with new bytes and writes it at once (Bach, algorithm bwrite). After a fault the held lines
-    /// have the new bytes all the same, and the block stays to be written.
-    pub fn bwrite<R: Wait>(&mut self, rt: &R, buf: Buf) -> Result<(), Refusal>
-        requires { CanPut (pass_held self.old.pass) (pass_lent self.old.pass) buf }
-        ensures held { pass_held self.new.pass ≡ put buf.block buf.bytes (pass_held self.old.pass) }
-        ensures lends { pass_lent self.new.pass ≡ without buf.block (pass_lent self.old.pass) }
-        ensures forced { pass_forced self.new.pass ≡ true }
-        ensures origin { pass_origin self.new.pass ≡ pass_origin self.old.pass }
-        ensures cause { HasFault (pass_faults self.old.pass) (pass_faults self.new.pass) result }
-    {
+    fn bwrite<R: Wait>(&mut self, rt: &R, buf: Buf) -> Result<(), Refusal> {
         put_now(rt, &self.cache.turn, &mut self.pass, buf)
     }
 
-    /// Cuts lines off as a stake of their own. A refusal is want of memory.
-    pub fn part(&mut self, _alloc: Global, lines: &[LineRange]) -> Result<Self, Refusal>
-        requires { CanPart (pass_held self.old.pass) (pass_lent self.old.pass) lines.now }
-        ensures ok { IfOk result (λ new. Parts (pass_held self.old.pass) lines.now (pass_held self.new.pass) (pass_held new.pass)) }
-        ensures new_lent { IfOk result (λ new. pass_lent new.pass ≡ nothing_lent) }
-        ensures new_faults { IfOk result (λ new. pass_faults new.pass ≡ 0) }
-        ensures new_forced { IfOk result (λ new. pass_forced new.pass ≡ false) }
-        ensures new_origin { IfOk result (λ new. pass_origin new.pass ≡ pass_origin self.old.pass) }
-        ensures err { OnErr result (pass_held self.new.pass ≡ pass_held self.old.pass) }
-        ensures memory { OnErr result (IsErrOf result NoMemory) }
-        ensures lends { pass_lent self.new.pass ≡ pass_lent self.old.pass }
-        ensures faults { pass_faults self.new.pass ≡ pass_faults self.old.pass }
-        ensures forced { pass_forced self.new.pass ≡ pass_forced self.old.pass }
-        ensures origin { pass_origin self.new.pass ≡ pass_origin self.old.pass }
-    {
+    fn part(&mut self, _alloc: Global, lines: &[LineRange]) -> Result<Self, Refusal> {
         let pass = split_lines::<Brand, D>(&self.cache.turn, &mut self.pass, lines)?;
         Ok(CacheStake {
             cache: self.cache,
@@ -137,20 +89,17 @@ impl<'a, D: Medium> CacheStake<'a, D> {
         })
     }
 
-    /// Takes the lines of another stake in, and its faults with them.
-    pub fn merge(&mut self, other: Self)
-        requires lines { CanMerge (pass_held self.old.pass) (pass_held other.pass) (pass_lent other.pass) }
-        requires origin { pass_origin other.pass ≡ pass_origin self.old.pass }
-        ensures held { pass_held self.new.pass ≡ Both (pass_held self.old.pass) (pass_held other.entry.pass) }
-        ensures lends { pass_lent self.new.pass ≡ pass_lent self.old.pass }
-        ensures faults { pass_faults self.new.pass ≡ counted (pass_faults self.old.pass) (pass_faults other.entry.pass) }
-        ensures forced { pass_forced self.new.pass ≡ (pass_forced self.old.pass || pass_forced other.entry.pass) }
-        ensures origin { pass_origin self.new.pass ≡ pass_origin self.old.pass }
-    {
+    fn merge(&mut self, other: Self) {
         let CacheStake { cache: _, pass } = other;
         self.cache.turn.join::<Brand>(&mut self.pass, pass);
     }
 
+    fn flush<R: Wait>(&mut self, rt: &R) -> Result<(), Refusal> {
+        flush_all(rt, &self.cache.turn, &mut self.pass, self.cache.buffers)
+    }
+}
+
+impl<'a, D: Medium> CacheStake<'a, D> {
     /// The pass again, with the lines that the stake holds.
     pub fn give_up(self) -> CachePass<D>
         ensures same { result ≡ self.entry.pass }

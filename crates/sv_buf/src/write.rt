@@ -7,12 +7,12 @@ ghost use Rattle.sv_form.specs.Geometry.{IsGeometry};
 ghost use Rattle.sv_turn.specs.Passes.{pass_view, IsOut, IsPassOf, IsSamePass, turn_events};
 ghost use Rattle.sv_cache.specs.Cache.{buffer_at, IsBusy};
 ghost use Rattle.sv_cache.specs.Brelse.{after_release};
-ghost use Rattle.sv_cache.specs.declared.scenario.Release.TheVariants.{FailedWrite};
 ghost use Rattle.sv_store.specs.Calls.{CanPut};
 ghost use Rattle.sv_store.specs.declared.refusal.Refusal.TheVariants.{Fault};
 ghost use Rattle.sv_buf.specs.View.{weight, held_of, lent_of};
 ghost use Rattle.sv_buf.specs.Changes.{moving_view, device_view, calm_view, failed_view, written_view};
 ghost use Rattle.sv_buf.specs.Delaying.{IsClean};
+ghost use Rattle.sv_buf.specs.Serving.{MayCount};
 ghost use Rattle.sv_buf.specs.Running.{IsRunning, IsFit, seen_by};
 ghost use Rattle.sv_buf.specs.Pending.{IsPending};
 
@@ -69,7 +69,7 @@ pub fn write_block<D: Medium>(disk: &mut D, block: u32, bytes: &[u8]) -> Result<
 }
 
 // Gives the buffer of a transfer back, after which the device is at home, and wakes who waits for either.
-fn give_home<N: NewView<View>, D: Medium>(
+pub fn give_home<N: NewView<View>, D: Medium>(
     turn: &Turn<Running<D>>,
     pass: &mut Pass<Running<D>>,
     mut state: State<D>,
@@ -96,31 +96,9 @@ fn give_home<N: NewView<View>, D: Medium>(
     turn.wake(FIRST_BUFFER + buffer);
 }
 
-// Gives the buffer of a write that failed back: it is marked, and still to be written.
-fn give_unwritten<D: Medium>(
-    turn: &Turn<Running<D>>,
-    pass: &mut Pass<Running<D>>,
-    state: State<D>,
-    buffer: u32,
-    bytes: Vec<u8>,
-)
-    requires own { IsPassOf turn.now pass.old }
-    requires busy { IsBusy state.core buffer }
-    requires out { (buffer_at state.core buffer).bytes ≡ None }
-    requires size { vec_len bytes ≡ state.core.geometry.block_size }
-    requires few { buffer < 65536 }
-    requires events { buffer + 3 < turn_events turn.now }
-    requires pending { IsPending (IsRunning (seen_by D.content D.reads D.writes D.faults)) pass.old
-        (record state { core = after_release state.core buffer bytes.items FailedWrite }) (failed_view (calm_view (pass_view pass.old))) }
-    ensures same { IsSamePass pass.old pass.new × IsOut pass.new }
-    ensures view { pass_view pass.new ≡ failed_view (calm_view (pass_view pass.old)) }
-{
-    give_home::<Brand, D>(turn, pass, state, buffer, bytes, Release::FailedWrite);
-}
-
 // Writes a buffer that is in transfer with the device that is out, and brings both home. The buffer is clean then, or after a failure
-// marked and still to be written.
-pub fn write_home<R: Wait, D: Medium>(
+// marked and still to be written. Whether the pass counts the failure is for the caller to say.
+pub fn bring_home<N: NewView<View>, R: Wait, D: Medium>(
     rt: &R,
     turn: &Turn<Running<D>>,
     pass: &mut Pass<Running<D>>,
@@ -141,9 +119,10 @@ pub fn write_home<R: Wait, D: Medium>(
     requires out { pass_view pass.old ≡ device_view (seen_by D.content D.reads D.writes D.faults disk)
         (moving_view buffer block (Some bytes.items) (calm_view (pass_view pass.old))) }
     requires clean { IsClean clean }
+    requires counts { MayCount (pass_view pass.old) (N.next (pass_view pass.old)) }
     ensures same { IsSamePass pass.old pass.new × IsOut pass.new }
     ensures ok { OnOk result (pass_view pass.new ≡ calm_view (pass_view pass.old)) }
-    ensures err { IfErr result (λ e. (e ≡ Fault) × (pass_view pass.new ≡ failed_view (calm_view (pass_view pass.old)))) }
+    ensures err { IfErr result (λ e. (e ≡ Fault) × (pass_view pass.new ≡ N.next (pass_view pass.old))) }
 {
     let wrote = write_block(&mut disk, block, bytes.as_slice());
     let mut state = turn.enter(rt, pass);
@@ -154,10 +133,39 @@ pub fn write_home<R: Wait, D: Medium>(
             Ok(())
         }
         Err(_) => {
-            give_unwritten(turn, pass, state, buffer, bytes);
+            give_home::<N, D>(turn, pass, state, buffer, bytes, Release::FailedWrite);
             Err(Refusal::Fault)
         }
     }
+}
+
+// Does the same, and the pass counts a failure.
+pub fn write_home<R: Wait, D: Medium>(
+    rt: &R,
+    turn: &Turn<Running<D>>,
+    pass: &mut Pass<Running<D>>,
+    disk: D,
+    buffer: u32,
+    block: u32,
+    bytes: Vec<u8>,
+    clean: Release,
+) -> Result<(), Refusal>
+    requires own { IsPassOf turn.now pass.old }
+    requires away { IsOut pass.old }
+    requires size { vec_len bytes ≡ 1024 }
+    requires some { 0 < weight (pass_view pass.old) }
+    requires sizes { IsGeometry (pass_view pass.old).opening.sizes }
+    requires inside { block < (pass_view pass.old).opening.sizes.blocks }
+    requires events { turn_events turn.now ≡ (pass_view pass.old).opening.buffers + 3 }
+    requires whole { length (D.content disk) ≡ (pass_view pass.old).opening.sizes.blocks * (pass_view pass.old).opening.sizes.block_size }
+    requires out { pass_view pass.old ≡ device_view (seen_by D.content D.reads D.writes D.faults disk)
+        (moving_view buffer block (Some bytes.items) (calm_view (pass_view pass.old))) }
+    requires clean { IsClean clean }
+    ensures same { IsSamePass pass.old pass.new × IsOut pass.new }
+    ensures ok { OnOk result (pass_view pass.new ≡ calm_view (pass_view pass.old)) }
+    ensures err { IfErr result (λ e. (e ≡ Fault) × (pass_view pass.new ≡ failed_view (calm_view (pass_view pass.old)))) }
+{
+    bring_home::<Brand, R, D>(rt, turn, pass, disk, buffer, block, bytes, clean)
 }
 
 // Takes a block back with new bytes, and its buffer for a transfer at once.

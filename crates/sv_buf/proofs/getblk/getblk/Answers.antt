@@ -4,7 +4,7 @@ use Rattle.sv_turn.specs.Passes.{pass_view}
 use Rattle.sv_buf.specs.Changes.{calm_view, moving_view}
 use Rattle.sv_buf.specs.Running.{IsRunning, seen_by}
 use Rattle.sv_buf.specs.Pending.{IsPending}
-use Rattle.sv_buf.proofs.Getting.{hit-valid, hit-invalid, taken-invalid, taken-unread, asked, has_room, same_core}
+use Rattle.sv_buf.proofs.Getting.{hit-valid, hit-invalid, taken-invalid, taken-unread, same_core}
 use Rattle.sv_buf.proofs.Returning.{counted-inside}
 use Rattle.sv_buf.proofs.getblk.getblk.Goals as goal
 
@@ -39,20 +39,6 @@ returns-in-Taken-clause-valid g c = λ valid.
     absurd (false≢true (sym (taken-unread _ c.loop.state c.attempt.new.self c.lend-bytes-in-Taken.new.self
     (pass_view c.args.pass.now ∷ c.loop.invariant.3.others) c.loop.invariant.3.so c.in-Taken.buffer c.args.block c.in-Taken.ensures.cause
     c.in-Taken.ensures.after c.lend-bytes-in-Taken.ensures.after) ∙ valid))
-
-pub ask-state-requires-clause-room : goal.ask-state-requires-clause-room
-ask-state-requires-clause-room g c =
-    has_room _ c.loop.state (pass_view c.args.pass.now) c.loop.invariant.3.others c.loop.invariant.3.so c.in-Delayed.buffer c.args.block
-    c.in-Delayed.ensures.cause.0
-
-pub loop-preserved-in-Delayed : goal.loop-preserved-in-Delayed
-loop-preserved-in-Delayed g c = (
-  c.loop.invariant.0,
-  c.loop.invariant.1,
-  c.loop.invariant.2,
-  asked _ c.loop.pass c.loop.state c.attempt.new.self c.ask-state.result (pass_view c.args.pass.now) c.in-Delayed.buffer c.args.block
-      c.loop.invariant.3 c.in-Delayed.ensures.cause c.in-Delayed.ensures.after c.in-Delayed.ensures.lawful c.ask-state.ensures,
-)
 
 pub sleep_with-state-requires-clause-rule : goal.sleep_with-state-requires-clause-rule
 sleep_with-state-requires-clause-rule g c = (

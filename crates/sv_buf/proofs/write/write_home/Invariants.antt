@@ -1,5 +1,5 @@
-use Rattle.sv_buf.specs.Changes.{calm_view}
+use Rattle.sv_buf.specs.Changes.{calm_view, failed_view}
 use Rattle.sv_buf.proofs.write.write_home.Given as goal
 
-abbrev pub ghosts-give_home : goal.ghosts-give_home
-ghosts-give_home g a = record { next = λ v. calm_view v }
+abbrev pub ghosts-bring_home : goal.ghosts-bring_home
+ghosts-bring_home g a = record { next = λ v. failed_view (calm_view v) }

@@ -1,5 +1,0 @@
-use Rattle.sv_buf.specs.Changes.{merged_view}
-use Rattle.sv_buf.proofs.stake.CacheStake.merge.Given as goal
-
-abbrev pub ghosts-join : goal.ghosts-join
-ghosts-join g a = record { whole = λ v w. merged_view v w }
