@@ -1,5 +1,5 @@
 -- A cache can be closed with a pass that holds all lines, and the worker's.
-use Rattle.std.proofs.Common.{◌≡◌, ◌+◌, ◌*◌, ◌<◌, ◌≤◌, ◌&&◌, ◌++◌, cond, Some, None, ℕ, zero, suc, Bool, true, false, List, [], ◌∷◌, length, refl, sym, ap, ◌∙◌, subst, arith}
+use Rattle.std.proofs.Common.{◌≡◌, ◌*◌, ◌<◌, ◌&&◌, ◌++◌, cond, Some, None, ℕ, zero, suc, Bool, true, false, List, [], ◌∷◌, refl, sym, ap, ◌∙◌, subst, arith}
 use Rattle.std.specs.Prelude.{Option, IsSome, count_by, nat_lt}
 use Rattle.std.specs.List.{All}
 use Rattle.std.proofs.lemmas.Bool.{false≢true, lt-ltb, ltb-true, and_parts}
@@ -10,7 +10,7 @@ use Rattle.sv_form.specs.Image.{block_of}
 use Rattle.sv_links.specs.Arrangement.{one_if}
 use Rattle.sv_turn.specs.declared.pass.Pass.{Pass}
 use Rattle.sv_turn.specs.declared.turn.Turn.{Turn}
-use Rattle.sv_turn.specs.Passes.{pass_view, first_view, IsOut, IsPassOf, IsSamePass}
+use Rattle.sv_turn.specs.Passes.{pass_view, first_view, IsOut, IsSamePass}
 use Rattle.sv_store.specs.Held.{InRange, SameLines, nothing_lent, line_of}
 use Rattle.sv_store.proofs.Holding.{IsSome-same}
 use Rattle.sv_buf.specs.View.{View, Noted, is_at, held_of, lent_of}

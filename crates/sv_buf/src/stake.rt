@@ -1,14 +1,8 @@
 // A stake over the cache.
-ghost use Rattle.std.specs.Prelude.{◌≡◌, ◌<◌, ◌^◌, ◌||◌, true, false, IfOk, OnOk, OnErr, IsErrOf};
+ghost use Rattle.std.specs.Prelude.{◌≡◌, IfOk, OnOk, OnErr};
 ghost use Rattle.sv_turn.specs.Passes.{pass_view, IsOut, IsPassOf, IsSamePass, first_view};
-ghost use Rattle.sv_dev.specs.Causes.{counted};
-ghost use Rattle.sv_store.specs.declared.refusal.Refusal.TheVariants.{NoMemory};
 ghost use Rattle.sv_buf.specs.Parting.{IsCut};
 ghost use Rattle.std.proofs.Props.{props};
-ghost use Rattle.sv_form.specs.Geometry.{IsGeometry};
-ghost use Rattle.sv_store.specs.Held.{InRange, Both, put, with, without, nothing_lent};
-ghost use Rattle.sv_store.specs.Calls.{CanGet, CanFresh, Gets, GetsZeros, CanReturn, CanPut, CanPart, Parts, CanMerge};
-ghost use Rattle.sv_store.specs.Causes.{HasFault};
 ghost use Rattle.sv_buf.specs.Running.{IsFit};
 ghost use Rattle.sv_buf.specs.Stake.{pass_held, pass_lent, pass_faults, pass_forced, pass_origin};
 

@@ -1,4 +1,4 @@
-use Rattle.std.proofs.Common.{◌≡◌, ◌∙◌, ℕ, List, ap, refl}
+use Rattle.std.proofs.Common.{◌≡◌, ◌∙◌, ℕ, List, ap}
 use Rattle.sv_turn.specs.Passes.{pass_view}
 use Rattle.sv_store.specs.Held.{with}
 use Rattle.sv_store.specs.Calls.{Gets}

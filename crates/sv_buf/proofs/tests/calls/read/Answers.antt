@@ -1,4 +1,4 @@
-use Rattle.std.proofs.Common.{◌∙◌, ap}
+use Rattle.std.proofs.Common.{◌∙◌}
 use Rattle.sv_store.proofs.Holding.{CanReturn-got, SameLines-eq}
 use Rattle.sv_store.proofs.Puts.{returned}
 use Rattle.sv_buf.proofs.Sharing.{whole-get, none-away}
