@@ -31,13 +31,13 @@ use Rattle.sv_check.proofs.ListReads.{list_of, reads_spelled}
 use Rattle.sv_check.proofs.WholeNodes.{length-block}
 use Rattle.sv_store.specs.Held.{Held, HoldsBlock, Lent, Origin, line_of, nothing_lent}
 use Rattle.sv_super.specs.Calls.{CanMount, is_free as is_free_block, owned_lines}
-use Rattle.sv_super.specs.Core.{HoldsSuper}
+use Rattle.sv_super.specs.Core.{HoldsOnly, HoldsSuper}
 use Rattle.sv_super.specs.Count.{one_if, sum_below, times}
 use Rattle.sv_super.specs.FreeList.{HasList, IsChain, front}
 use Rattle.sv_super.proofs.Chains.{after-link, after-snoc, chain-empty, chain-more, next-link, next-snoc}
 use Rattle.sv_super.proofs.Counts.{few, times-append, times-cons, times-nil, times-snoc}
 use Rattle.sv_super.proofs.Fronts.{front-is}
-use Rattle.sv_files.specs.FromImage.{HoldsLinesOf, IsUsedInode, TellsOwners}
+use Rattle.sv_files.specs.FromImage.{HoldsLinesOf, HoldsNoOther, IsUsedInode, TellsOwners}
 use Rattle.sv_files.proofs.Hits.{any-hits, find-never, hits, hits-any, hits-map, one-of, some-of}
 use Rattle.sv_files.proofs.OwnBlocks.{bad-data, met_is, owner-is}
 use Rattle.sv_files.proofs.TreeSpots.{is_at}
@@ -601,6 +601,33 @@ module _ (o : Origin) (image : List ℕ) (sizes : IsGeometry o.sizes) (long : le
         | inr some ↦ let once = (met b).once in let flag = ap one_if (free-if b (omega (arith, some))) in omega (arith, some, once, flag)
       ]
 
+  -- a data block of which a line belongs to no inode is free
+  own-free : (b l : ℕ) → IsDataBlock g b → line_owner g image (record { block = b; line = l }) ≡ 0 → is_free_block t b ≡ true
+  own-free b l data_b own =
+      free-test b ∙ all_three (nat_le g.first_data b) (nat_lt b g.blocks) (owned_lines t b == 0) one two
+      (eq-eqb (owned_lines t b) 0 (unowned b most (inr least) (unmet (is_among (walked g image) b) refl)))
+    where
+      least : g.first_data ≤ b
+      least = data_b.least
+
+      most : b < g.blocks
+      most = data_b.most
+
+      one : nat_le g.first_data b ≡ true
+      one = grind (arith, least)
+
+      two : nat_lt b g.blocks ≡ true
+      two = grind (arith, most)
+
+      unmet : (t : Bool) → is_among (walked g image) b ≡ t → is_among (walked g image) b ≡ false
+      unmet false e = e
+      unmet true e = absurd (owner-some b l e own)
+
+  pub free-alone : HoldsNoOther g image 0 h → HoldsOnly o h (λ b. one_if (is_free_block t b))
+  free-alone alone = record {
+    only = λ b l is data_b. (let flag = ap one_if (own-free b l data_b (alone.only b l is)) in omega (arith, flag));
+  }
+
   -- ---- the superblock
 
   zero_unmet : is_among (walked g image) 0 ≡ false
@@ -673,3 +700,14 @@ mounts-blocks image c t tells o e h holds s is m away =
     subst (λ (x : Origin). CanMount x h m t s.free.items) (sym same)
     (can-mount at image w.sized.sizes.bounds w.sized.sizes.length
     (none-bad (geometry_of image) image w.range w.twice) c.chain c.lost t tells h holds m away s is)
+
+pub mounts-alone : (image : List ℕ) → IsChained image → (t : OwnerTable) → TellsOwners (geometry_of image) image t → (o : Origin)
+    → o.sizes ≡ geometry_of image → (h : Held) → HoldsLinesOf (geometry_of image) image 0 h → HoldsNoOther (geometry_of image) image 0 h
+    → HoldsOnly o h (λ b. one_if (is_free_block t b))
+mounts-alone image c t tells o e h holds alone =
+    let w = c.walked in
+    let at : Origin = record o { sizes = geometry_of image } in
+    let same : o ≡ at = λ i. record o { sizes = e i } in
+    subst (λ (x : Origin). HoldsOnly x h (λ b. one_if (is_free_block t b))) (sym same)
+    (free-alone at image w.sized.sizes.bounds w.sized.sizes.length
+    (none-bad (geometry_of image) image w.range w.twice) c.chain c.lost t tells h holds alone)

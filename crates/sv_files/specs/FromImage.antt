@@ -1,6 +1,6 @@
 -- From an image to held lines: where the lines are those of an image whose conditions hold, the inodes stand for the nodes of
 -- its tree, and what is left has the chain of free blocks and the lines of the free inodes.
-use Rattle.std.specs.Prelude.{◌≡◌, ◌≤◌, ℕ, Bool, false, List, None, Some, replicate}
+use Rattle.std.specs.Prelude.{◌≡◌, ◌≤◌, ℕ, Bool, false, IsSome, List, None, Some, replicate}
 use Rattle.sv_form.specs.declared.geometry.Geometry.{Geometry}
 use Rattle.sv_form.specs.declared.inode.DiskInode.TheVariants.{Used}
 use Rattle.sv_form.specs.declared.inode.InodeBody.{InodeBody}
@@ -16,7 +16,9 @@ use Rattle.sv_store.specs.Held.{Held, Lent, Origin, line_of, nothing_lent}
 use Rattle.sv_check.specs.InodeCache.{cache_flaw}
 use Rattle.sv_check.specs.InodeList.{is_free, used_flags}
 use Rattle.sv_check.specs.Sound.{IsChained, IsWalked, line_owner, node_of}
-use Rattle.sv_super.specs.Calls.{CanMount, CanMountInodes}
+use Rattle.sv_super.specs.Calls.{CanMount, CanMountInodes, is_free as is_free_block}
+use Rattle.sv_super.specs.Core.{HoldsOnly}
+use Rattle.sv_super.specs.Count.{one_if}
 use Rattle.sv_inode.specs.StandsFor.{StandsFor}
 
 -- inode n of the image is in use
@@ -62,3 +64,14 @@ abbrev pub FreeBlocksMount : Type 0
 FreeBlocksMount = (image : List ℕ) → IsChained image → (t : OwnerTable) → TellsOwners (geometry_of image) image t
     → (o : Origin) → o.sizes ≡ geometry_of image → (h : Held) → HoldsLinesOf (geometry_of image) image 0 h
     → (s : Super) → IsSuper (superblock_of image) s → (m : Lent) → m ≡ nothing_lent → CanMount o h m t s.free.items
+
+-- no other lines of the image are held than those whose owner is inode n
+pub record HoldsNoOther (g : Geometry) (image : List ℕ) (n : ℕ) (h : Held) : Type 0 where
+  pub only : (b l : ℕ) → IsSome (h b l) → line_owner g image (record { block = b; line = l }) ≡ n
+
+-- Where the first eleven conditions hold, and exactly the lines that no inode owns are held, a core that is mounted holds of the
+-- data blocks only those that are free.
+abbrev pub FreeBlocksAlone : Type 0
+FreeBlocksAlone = (image : List ℕ) → IsChained image → (t : OwnerTable) → TellsOwners (geometry_of image) image t
+    → (o : Origin) → o.sizes ≡ geometry_of image → (h : Held) → HoldsLinesOf (geometry_of image) image 0 h
+    → HoldsNoOther (geometry_of image) image 0 h → HoldsOnly o h (λ b. one_if (is_free_block t b))

@@ -1,5 +1,5 @@
 // From an image to held lines, without code.
-ghost use Rattle.sv_files.specs.FromImage.{FreeBlocksMount, FreeInodesMount, InodesStandForNodes};
+ghost use Rattle.sv_files.specs.FromImage.{FreeBlocksAlone, FreeBlocksMount, FreeInodesMount, InodesStandForNodes};
 
 /// Where the first nine conditions of an image hold, a stake that holds the lines of a used inode with the image's bytes holds
 /// what stands for the inode's node of the tree: its body, its address tree, and each page with its bytes. What else the stake
@@ -19,4 +19,10 @@ pub fn free_inodes_mount()
 /// superblock, and a chain that begins with the superblock's list and has each free block of the owner table once, and no other.
 pub fn free_blocks_mount()
     ensures { FreeBlocksMount }
+{}
+
+/// Where the first eleven conditions hold, a stake that holds the lines of nobody, and no others, holds of the data blocks only
+/// those that are free, as a core asks too.
+pub fn free_blocks_alone()
+    ensures { FreeBlocksAlone }
 {}

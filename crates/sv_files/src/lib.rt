@@ -5,8 +5,8 @@
 //!   for its node.
 //! - `stat` answers what an inode says. It locks the inode, sleeping while another pass has it, and reads its line where it is not
 //!   in core.
-//! - `inodes_stand_for_nodes`, `free_blocks_mount` and `free_inodes_mount` give, from a sound image, what each used inode's lines
-//!   stand for, and all that a core asks of the lines that no inode owns.
+//! - `inodes_stand_for_nodes`, `free_blocks_mount`, `free_blocks_alone` and `free_inodes_mount` give, from a sound image, what each
+//!   used inode's lines stand for, and all that a core asks of the lines that no inode owns.
 //! - `closed_is_sound` gives a sound image, whose tree is the nodes, from the lines of a file system that was closed. Each other
 //!   law is a part of it, from what alone it needs.
 //! - `flushed_is_sized`, `flushed_is_chained` and `flushed_is_cached` give the conditions 1 to 3 and 10 to 12 from the lines of a
@@ -40,6 +40,8 @@ pub use converse::{
     purged_is_at_rest, sound_is_at_rest, sound_is_closed,
 };
 pub use files::{FilePass, Files};
-pub use from_image::{free_blocks_mount, free_inodes_mount, inodes_stand_for_nodes};
+pub use from_image::{
+    free_blocks_alone, free_blocks_mount, free_inodes_mount, inodes_stand_for_nodes,
+};
 pub use node_blocks::{need_is_added, tree_is_used};
 pub use std::alloc::AllocError as NoMemory;
