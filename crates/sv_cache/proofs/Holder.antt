@@ -8,7 +8,7 @@ use Rattle.sv_links.specs.Arrangement.{list_at, times}
 use Rattle.sv_links.proofs.Times.{one-if_same}
 use Rattle.sv_links.proofs.Walk.{find-some, find-none}
 use Rattle.sv_cache.specs.declared.TheConstants.{HASH_QUEUES}
-use Rattle.sv_cache.specs.declared.cache.CacheCore.TheInside.{Inside}
+use Rattle.sv_cache.specs.declared.cache.Buffers.{Buffers}
 use Rattle.sv_cache.specs.declared.scenario.Scenario.TheVariants.{Hit, Taken, Delayed, Empty, Busy}
 use Rattle.sv_cache.specs.Cache.{Cache, Buffer, buffer_at, no_buffer, is_block, holder, is_free}
 use Rattle.sv_cache.specs.Getblk.{scenario_of, meets, reuses, IsCause, IsUnnamed}
@@ -66,7 +66,7 @@ abbrev pub names : {D : Type 0} → Cache D → ℕ → ℕ → Bool
 names c b k = is_block (buffer_at c k).block b
 
 -- the hash queue of b has the buffer that names b, and no other buffer names it
-queue-holder_by : {D : Type 0} (a : Inside D) (b : ℕ) → IsKept a → (r : Option ℕ) → find (names (cache a) b) (list_at a.queues (b % HASH_QUEUES)) ≡ r → r ≡ holder (cache a) b
+queue-holder_by : {D : Type 0} (a : Buffers D) (b : ℕ) → IsKept a → (r : Option ℕ) → find (names (cache a) b) (list_at a.queues (b % HASH_QUEUES)) ≡ r → r ≡ holder (cache a) b
 queue-holder_by a b kept None h =
     let unnamed : IsUnnamed (cache a) b = λ j named.
     let stands : times j (list_at a.queues (b % HASH_QUEUES)) ≡ 1 = kept.one_queue.queued j (b % HASH_QUEUES) ∙ ap (λ o. on_queue o (b % HASH_QUEUES)) named ∙ one-if_same (b % HASH_QUEUES) (b % HASH_QUEUES) refl in
@@ -78,7 +78,7 @@ queue-holder_by a b kept (Some k) h =
     let found = find-some (names (cache a) b) (list_at a.queues (b % HASH_QUEUES)) k h in
     sym (holder-named (cache a) k b kept.lawful.one_buffer (is_block-true (buffer_at (cache a) k).block b found.0))
 
-pub queue-holder : {D : Type 0} (a : Inside D) (b : ℕ) → IsKept a → find (names (cache a) b) (list_at a.queues (b % HASH_QUEUES)) ≡ holder (cache a) b
+pub queue-holder : {D : Type 0} (a : Buffers D) (b : ℕ) → IsKept a → find (names (cache a) b) (list_at a.queues (b % HASH_QUEUES)) ≡ holder (cache a) b
 queue-holder a b kept = queue-holder_by a b kept (find (names (cache a) b) (list_at a.queues (b % HASH_QUEUES))) refl
 
 -- what stands at the head of the free list

@@ -7,7 +7,7 @@ use Rattle.sv_links.specs.Arrangement.{Arrangement, list_at, times}
 use Rattle.sv_links.proofs.Walk.{times-range_past, times-range_le}
 use Rattle.sv_form.specs.declared.geometry.Geometry.{Geometry}
 use Rattle.sv_cache.specs.declared.TheConstants.{HASH_QUEUES}
-use Rattle.sv_cache.specs.declared.cache.CacheCore.TheInside.{Inside}
+use Rattle.sv_cache.specs.declared.cache.Buffers.{Buffers}
 use Rattle.sv_cache.specs.Cache.{Buffer, buffer_at, no_buffer, new_buffer, new_cache}
 use Rattle.sv_cache.specs.Lawful.{IsLawful, IsKept, on_queue, cache}
 
@@ -50,12 +50,12 @@ times-empty (suc m) zero k = refl
 times-empty (suc m) (suc q) k = times-empty m q k
 
 -- what `new` puts together, seen as a cache
-pub view-new : {D : Type 0} (a : Inside D) (d : D) (n : ℕ) (g : Geometry) → a.headers.items ≡ replicate n (new_buffer g.block_size) → a.free ≡ record { numbers = n; lists = range_with_len 0 n ∷ [] } → a.geometry ≡ g → a.device ≡ Some d → cache a ≡ new_cache d n g
+pub view-new : {D : Type 0} (a : Buffers D) (d : D) (n : ℕ) (g : Geometry) → a.headers.items ≡ replicate n (new_buffer g.block_size) → a.free ≡ record { numbers = n; lists = range_with_len 0 n ∷ [] } → a.geometry ≡ g → a.device ≡ Some d → cache a ≡ new_cache d n g
 view-new a d n g headers free geometry device =
     let list : list_at a.free 0 ≡ range_with_len 0 n = ap (λ f. list_at f 0) free in
     cc
 
-pub kept-new : {D : Type 0} (a : Inside D) (d : D) (n : ℕ) (g : Geometry) → a.headers.items ≡ replicate n (new_buffer g.block_size) → a.queues ≡ record { numbers = n; lists = replicate HASH_QUEUES [] } → a.free ≡ record { numbers = n; lists = range_with_len 0 n ∷ [] } → a.geometry ≡ g → a.device ≡ Some d → IsKept a
+pub kept-new : {D : Type 0} (a : Buffers D) (d : D) (n : ℕ) (g : Geometry) → a.headers.items ≡ replicate n (new_buffer g.block_size) → a.queues ≡ record { numbers = n; lists = replicate HASH_QUEUES [] } → a.free ≡ record { numbers = n; lists = range_with_len 0 n ∷ [] } → a.geometry ≡ g → a.device ≡ Some d → IsKept a
 kept-new a d n g headers queues free geometry device =
     let view = view-new a d n g headers free geometry device in
     let size : length a.headers.items ≡ n = ap length headers ∙ length-replicate n (new_buffer g.block_size) in

@@ -12,7 +12,7 @@ ghost use Rattle.sv_cache.specs.Brelse.{after_lend, after_release, freed};
 
 use crate::header::Header;
 use crate::{HASH_QUEUES, NoMemory, Release, Scenario};
-use std::alloc::Global;
+use std::alloc::{AllocFailed, Global};
 use std::marker::Model;
 use sv_dev::Disk;
 use sv_form::Geometry;
@@ -21,8 +21,13 @@ use sv_links::Lists;
 /// The only list of `free`.
 const FREE: u32 = 0;
 
-/// The buffers of one device, and the device itself while it is not out.
+/// The buffers of one device, and the device itself while it is not out. As a value it is one pointer, so that it is cheap to move.
 pub struct CacheCore<D> {
+    all: Box<Buffers<D>>,
+}
+
+// What stands behind the pointer.
+struct Buffers<D> {
     headers: Vec<Header>,
     queues: Lists,
     free: Lists,
@@ -37,9 +42,9 @@ impl<D> Model for CacheCore<D> {
 
     ghost use Rattle.sv_cache.specs.Lawful.{cache, IsKept};
 
-    ghost view = { cache };
+    ghost view = { λ a. cache a.all.value };
 
-    ghost invariant = { IsKept };
+    ghost invariant = { λ a. IsKept a.all.value };
 }
 
 impl<D: Disk> CacheCore<D> {
@@ -62,13 +67,19 @@ impl<D: Disk> CacheCore<D> {
         ensures lawful { IfOk result IsLawful }
     {
         match make_parts(alloc, buffers, geometry.block_size) {
-            Ok(parts) => Ok(CacheCore {
-                headers: parts.headers,
-                queues: parts.queues,
-                free: parts.free,
-                geometry,
-                device: Some(disk),
-            }),
+            Ok(parts) => {
+                let all = Buffers {
+                    headers: parts.headers,
+                    queues: parts.queues,
+                    free: parts.free,
+                    geometry,
+                    device: Some(disk),
+                };
+                match Box::new(alloc, all) {
+                    Ok(all) => Ok(CacheCore { all }),
+                    Err(AllocFailed { value }) => Err((value.into_device().unwrap(), NoMemory)),
+                }
+            }
             Err(refusal) => Err((disk, refusal)),
         }
     }
@@ -107,7 +118,7 @@ impl<D> CacheCore<D> {
         ensures fresh { IsFreshFirst self.old → IsFreshFirst self.new }
         ensures lawful { IsLawful self.new }
     {
-        self.headers[buffer as usize].lend()
+        self.all.headers[buffer as usize].lend()
     }
 
     /// Ends with a busy buffer (Bach, chapter 3.3, `brelse`): its bytes come home, and it goes on the free list.
@@ -119,8 +130,9 @@ impl<D> CacheCore<D> {
         ensures fresh { IsToTail how → IsFreshFirst self.old → IsFreshFirst self.new }
         ensures lawful { IsLawful self.new }
     {
-        self.headers[buffer as usize].give_back(bytes, how);
-        put_on(&mut self.free, buffer, how);
+        let all = &mut *self.all;
+        all.headers[buffer as usize].give_back(bytes, how);
+        put_on(&mut all.free, buffer, how);
     }
 
     /// Whether the buffer's bytes are those of its block.
@@ -129,7 +141,7 @@ impl<D> CacheCore<D> {
         ensures valid { result ≡ (buffer_at self.now buffer).valid }
         ensures lawful { IsLawful self.now }
     {
-        self.headers[buffer as usize].is_valid()
+        self.all.headers[buffer as usize].is_valid()
     }
 
     /// Whether the buffer's bytes are still to be written.
@@ -138,7 +150,7 @@ impl<D> CacheCore<D> {
         ensures delayed { result ≡ (buffer_at self.now buffer).delayed }
         ensures lawful { IsLawful self.now }
     {
-        self.headers[buffer as usize].is_delayed()
+        self.all.headers[buffer as usize].is_delayed()
     }
 
     /// Whether a write of the buffer's bytes has failed, and they are still to be written.
@@ -147,7 +159,7 @@ impl<D> CacheCore<D> {
         ensures marked { result ≡ (buffer_at self.now buffer).marked }
         ensures lawful { IsLawful self.now }
     {
-        self.headers[buffer as usize].is_marked()
+        self.all.headers[buffer as usize].is_marked()
     }
 
     /// The buffer that names the block, free or busy. Nothing is taken.
@@ -155,12 +167,13 @@ impl<D> CacheCore<D> {
         ensures holder { result ≡ holder self.now block }
         ensures lawful { IsLawful self.now }
     {
-        let mut next = self.queues.first(block % HASH_QUEUES);
+        let all = &*self.all;
+        let mut next = all.queues.first(block % HASH_QUEUES);
         while let Some(buffer) = next {
-            if self.headers[buffer as usize].names(block) {
+            if all.headers[buffer as usize].names(block) {
                 return Some(buffer);
             }
-            next = self.queues.next(buffer);
+            next = all.queues.next(buffer);
         }
         None
     }
@@ -171,7 +184,7 @@ impl<D> CacheCore<D> {
         ensures block { result ≡ (buffer_at self.now buffer).block }
         ensures lawful { IsLawful self.now }
     {
-        self.headers[buffer as usize].block()
+        self.all.headers[buffer as usize].block()
     }
 
     /// Whether the buffer is on the free list.
@@ -180,7 +193,7 @@ impl<D> CacheCore<D> {
         ensures free { IsTrue result ↔ IsFree self.now buffer }
         ensures lawful { IsLawful self.now }
     {
-        self.free.list_of(buffer).is_some()
+        self.all.free.list_of(buffer).is_some()
     }
 
     /// The first buffer on the free list that is delayed.
@@ -188,12 +201,13 @@ impl<D> CacheCore<D> {
         ensures first { result ≡ find (is_delayed self.now) self.now.free }
         ensures lawful { IsLawful self.now }
     {
-        let mut next = self.free.first(FREE);
+        let all = &*self.all;
+        let mut next = all.free.first(FREE);
         while let Some(buffer) = next {
-            if self.headers[buffer as usize].is_delayed() {
+            if all.headers[buffer as usize].is_delayed() {
                 return Some(buffer);
             }
-            next = self.free.next(buffer);
+            next = all.free.next(buffer);
         }
         None
     }
@@ -205,7 +219,7 @@ impl<D> CacheCore<D> {
         ensures fresh { IsFreshFirst self.old → IsFreshFirst self.new }
         ensures lawful { IsLawful self.new }
     {
-        self.device.take()
+        self.all.device.take()
     }
 
     /// Brings the device home.
@@ -215,7 +229,7 @@ impl<D> CacheCore<D> {
         ensures fresh { IsFreshFirst self.old → IsFreshFirst self.new }
         ensures lawful { IsLawful self.new }
     {
-        match self.device.replace(disk) {
+        match self.all.device.replace(disk) {
             None => {}
             Some(_) => unreachable!(),
         }
@@ -225,14 +239,8 @@ impl<D> CacheCore<D> {
     pub fn into_device(self) -> Option<D>
         ensures { result ≡ self.device }
     {
-        let CacheCore {
-            headers: _,
-            queues: _,
-            free: _,
-            geometry: _,
-            device,
-        } = self;
-        device
+        let CacheCore { all } = self;
+        Box::into_inner(all).into_device()
     }
 
     /// Takes the head of the free list for a block that no buffer names: scenarios 2, 3 and 4.
@@ -242,7 +250,7 @@ impl<D> CacheCore<D> {
         ensures after { self.new ≡ after_search self.old block result }
         ensures lawful { IsLawful self.new }
     {
-        let Some(buffer) = self.free.first(FREE) else {
+        let Some(buffer) = self.all.free.first(FREE) else {
             return Scenario::Empty;
         };
         self.take_off(buffer);
@@ -259,7 +267,7 @@ impl<D> CacheCore<D> {
         ensures after { self.new ≡ record self.old { free = without buffer self.old.free } }
         ensures lawful { IsLawful self.new }
     {
-        self.free.unlink(buffer);
+        self.all.free.unlink(buffer);
     }
 
     /// Gives a buffer to a block that no buffer names, and moves it to the hash queue of this block.
@@ -272,9 +280,26 @@ impl<D> CacheCore<D> {
         } }
         ensures lawful { IsLawful self.new }
     {
-        leave(&mut self.queues, buffer);
-        self.queues.push_tail(block % HASH_QUEUES, buffer);
-        self.headers[buffer as usize].rename(block);
+        let all = &mut *self.all;
+        leave(&mut all.queues, buffer);
+        all.queues.push_tail(block % HASH_QUEUES, buffer);
+        all.headers[buffer as usize].rename(block);
+    }
+}
+
+impl<D> Buffers<D> {
+    // Ends them all, and hands the device back if it is at home.
+    fn into_device(self) -> Option<D>
+        ensures { result ≡ self.device }
+    {
+        let Buffers {
+            headers: _,
+            queues: _,
+            free: _,
+            geometry: _,
+            device,
+        } = self;
+        device
     }
 }
 

@@ -7,8 +7,8 @@ use Rattle.sv_cache.proofs.Holder.{names}
 use Rattle.sv_cache.proofs.cache.CacheCore.find.Given as goal
 
 abbrev pub decreases-loop-next : goal.decreases-loop-next
-decreases-loop-next g l = length (rest l.next (list_at l.self-inside.queues (l.block % HASH_QUEUES)))
+decreases-loop-next g l = length (rest l.next (list_at l.all.queues (l.block % HASH_QUEUES)))
 
 -- the search of the hash queue has come to `next`
 abbrev pub invariant-loop-next : goal.invariant-loop-next
-invariant-loop-next g l = Searching (names (cache l.self-inside) l.block) (list_at l.self-inside.queues (l.block % HASH_QUEUES)) l.next
+invariant-loop-next g l = Searching (names (cache l.all) l.block) (list_at l.all.queues (l.block % HASH_QUEUES)) l.next

@@ -6,8 +6,8 @@ use Rattle.sv_cache.specs.Lawful.{cache}
 use Rattle.sv_cache.proofs.cache.CacheCore.next_delayed.Given as goal
 
 abbrev pub decreases-loop-next : goal.decreases-loop-next
-decreases-loop-next g l = length (rest l.next (list_at l.self-inside.free 0))
+decreases-loop-next g l = length (rest l.next (list_at l.all.free 0))
 
 -- the search of the free list has come to `next`
 abbrev pub invariant-loop-next : goal.invariant-loop-next
-invariant-loop-next g l = Searching (is_delayed (cache l.self-inside)) (list_at l.self-inside.free 0) l.next
+invariant-loop-next g l = Searching (is_delayed (cache l.all)) (list_at l.all.free 0) l.next
