@@ -2,11 +2,11 @@
 use Rattle.std.specs.Prelude.{◌≤◌}
 use Rattle.std.specs.VecDeque.{deque_len, deque_capacity}
 use Rattle.sv_request.specs.Queue.{Queue}
-use Rattle.sv_request.specs.declared.requests.Requests.TheInside.{Inside}
+use Rattle.sv_request.specs.declared.requests.Ring.{Ring}
 
-abbrev pub queue : Inside → Queue
+abbrev pub queue : Ring → Queue
 queue a = record { capacity = a.capacity; waiting = a.waiting.items }
 
-pub record IsKept (a : Inside) : Type 0 where
+pub record IsKept (a : Ring) : Type 0 where
   pub within : deque_len a.waiting ≤ a.capacity
   pub roomy : a.capacity ≤ deque_capacity a.waiting

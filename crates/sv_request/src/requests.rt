@@ -7,9 +7,16 @@ use std::alloc::Global;
 use std::collections::VecDeque;
 use std::marker::Model;
 
-/// The numbers that wait, of which there are at most as many as the queue was made for.
+/// The numbers that wait, of which there are at most as many as the queue was made for. As a value it is one pointer, so that it is
+/// cheap to move.
 #[derive(Drop)]
 pub struct Requests {
+    ring: Box<Ring>,
+}
+
+// What stands behind the pointer.
+#[derive(Drop)]
+struct Ring {
     waiting: VecDeque<u32>,
     capacity: u32,
 }
@@ -21,9 +28,9 @@ impl Model for Requests {
 
     ghost use Rattle.sv_request.specs.Keeping.{queue, IsKept};
 
-    ghost view = { queue };
+    ghost view = { λ a. queue a.ring.value };
 
-    ghost invariant = { IsKept };
+    ghost invariant = { λ a. IsKept a.ring.value };
 }
 
 impl Requests {
@@ -32,7 +39,8 @@ impl Requests {
         ensures { IfOk result (λ q. q ≡ record { capacity = capacity; waiting = [] }) }
     {
         let waiting = VecDeque::with_capacity(alloc, capacity as usize)?;
-        Ok(Requests { waiting, capacity })
+        let ring = Box::new(alloc, Ring { waiting, capacity })?;
+        Ok(Requests { ring })
     }
 
     /// Lets a number wait behind all others. A full queue hands it back.
@@ -43,11 +51,12 @@ impl Requests {
         ensures refused { IfErr result (λ x. (x ≡ buffer) × (self.new ≡ self.old)) }
         ensures within { IsWithin self.new }
     {
-        if self.waiting.len() >= self.capacity as usize {
+        let ring = &mut *self.ring;
+        if ring.waiting.len() >= ring.capacity as usize {
             return Err(buffer);
         }
         // There is room for every number, so nothing is refused.
-        let _ = self.waiting.push_back(buffer);
+        let _ = ring.waiting.push_back(buffer);
         Ok(())
     }
 
@@ -56,7 +65,7 @@ impl Requests {
         ensures taken { MatchOption result (IsEmpty self.old self.new) (IsTaken self.old self.new) }
         ensures within { IsWithin self.new }
     {
-        self.waiting.pop_front()
+        self.ring.waiting.pop_front()
     }
 }
 

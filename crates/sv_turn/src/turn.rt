@@ -35,7 +35,7 @@ pub struct Turn<R: TurnRule> {
     places: Vec<EventCount>,
     events: Vec<EventCount>,
     ghost counts: { (table.shared.table_id.words ≡ 2) × (table.shared.table_id.slots ≡ 1) },
-    ghost has_places: { 0 < vec_len places },
+    ghost has_places: { vec_len places ≡ PLACES },
 }
 
 impl<R: TurnRule> Turn<R> {
@@ -142,7 +142,7 @@ impl<R: TurnRule> Turn<R> {
 
     // Where the pass with this ticket waits.
     fn place_of(&self, ticket: u64) -> &EventCount {
-        &self.places[(ticket % self.places.len() as u64) as usize]
+        &self.places[(ticket % u64::from(PLACES)) as usize]
     }
 
     /// Puts the state back and gives the turn to the next ticket. The pass that waits with it is woken; where no more
