@@ -35,7 +35,7 @@ pub struct Turn<R: TurnRule> {
     places: Vec<EventCount>,
     events: Vec<EventCount>,
     ghost counts: { (table.shared.table_id.words ≡ 2) × (table.shared.table_id.slots ≡ 1) },
-    ghost has_places: { vec_len places ≡ PLACES },
+    ghost has_places: { vec_len places ≡ 64 },
 }
 
 impl<R: TurnRule> Turn<R> {
