@@ -1,12 +1,16 @@
 //! A cache over a disk of ten blocks of zero bytes, and what it leaves.
-ghost use Rattle.std.specs.Prelude.{◌≡◌, ◌<◌, ◌/◌, [], IfOk, IsSome, length, vec_capacity};
+ghost use Rattle.std.specs.Prelude.{◌≡◌, ◌*◌, ◌<◌, ◌/◌, [], IfOk, IsSome, length, vec_capacity};
+ghost use Rattle.sv_form.specs.Geometry.{IsGeometry};
 ghost use Rattle.sv_cache.specs.Cache.{IsBufferCount};
 ghost use Rattle.sv_turn.specs.Passes.{first_view};
 ghost use Rattle.sv_store.specs.Calls.{CanGet};
 ghost use Rattle.sv_buf.specs.Ending.{HasAll, IsWorkers};
 ghost use Rattle.sv_buf.specs.Sharing.{KeepsLines};
 
+mod asks;
 mod calls;
+mod held_read;
+mod image_a;
 mod threads;
 
 use crate::NoMemory;
@@ -41,16 +45,18 @@ fn open<D: Disk + Drop>(
     alloc: Global,
     disk: D,
     buffers: u32,
+    sizes: Geometry,
 ) -> Result<(Cache<D>, CachePass<D>, CachePass<D>, Vec<CachePass<D>>), NoMemory>
-    requires length { length (D.content disk) ≡ 10240 }
+    requires sizes { IsGeometry sizes }
+    requires length { length (D.content disk) ≡ sizes.blocks * sizes.block_size }
     requires buffers { IsBufferCount buffers }
-    ensures sizes { IfOk result (λ r. (first_view r.0.turn).opening.sizes ≡ record { block_size = 1024; blocks = 10; first_data = 3 }) }
+    ensures sizes { IfOk result (λ r. (first_view r.0.turn).opening.sizes ≡ sizes) }
     ensures all { IfOk result (λ r. HasAll r.0.turn r.1) }
     ensures worker { IfOk result (λ r. IsWorkers r.0.turn r.2) }
     ensures passes { IfOk result (λ r. (r.3.items ≡ []) × (vec_capacity r.3 ≡ 2)) }
 {
     let passes = Vec::with_capacity(alloc, 2)?;
-    match Cache::new(alloc, disk, buffers, SIZES) {
+    match Cache::new(alloc, disk, buffers, sizes) {
         Ok((cache, first, worker)) => Ok((cache, first, worker, passes)),
         Err((_, refused)) => {
             passes.destroy_empty();
@@ -70,12 +76,19 @@ fn end<D: Medium>(
     requires room { vec_capacity passes ≡ 2 }
     requires all { HasAll cache.turn first }
     requires worker { IsWorkers cache.turn worker }
-    requires sizes { (first_view cache.turn).opening.sizes ≡ record { block_size = 1024; blocks = 10; first_data = 3 } }
-    ensures { length (D.content result.0) ≡ 10240 }
+    ensures { length (D.content result.0) ≡ (first_view cache.turn).opening.sizes.blocks * (first_view cache.turn).opening.sizes.block_size }
 {
     passes.push_reserved(first);
     passes.push_reserved(worker);
     cache.close(passes)
+}
+
+// Lets the worker stop.
+fn stop_all<R: Wait, D: Medium>(rt: &R, cache: &Cache<D>, first: &mut CachePass<D>)
+    requires all { HasAll cache.now.turn first.old }
+    ensures all { HasAll cache.now.turn first.new }
+{
+    cache.stop(rt, first);
 }
 
 // Puts a byte at a place of a held line, and answers the one that was there.

@@ -4,19 +4,19 @@ ghost use Rattle.sv_turn.specs.Passes.{first_view};
 ghost use Rattle.sv_buf.specs.Ending.{HasAll};
 ghost use Rattle.sv_buf.specs.Sharing.{IsShare, KeepsLines};
 
-use super::{disk, end, exchange, open};
+use super::{SIZES, disk, end, exchange, open, stop_all};
 use crate::NoMemory;
 use crate::cache::{Cache, CachePass};
 use std::alloc::Global;
 use std::sync::Wait;
 use std::test::Fail as TestFail;
-use sv_dev::{Access, Fail, MemDisk};
+use sv_dev::{Access, Disk, Fail};
 use sv_store::{Refusal, Stake};
 
 // A call on a block: its first byte is read, is made 9 by a delayed write, or is made 9 by a write at once; the block is made anew; the
 // block is read and the next one read ahead; or all is flushed.
 #[derive(Clone, Copy, Debug, PartialEq, Eq)]
-enum Call {
+pub(super) enum Call {
     Read,
     Set,
     SetNow,
@@ -117,29 +117,28 @@ fn make_all<R: Wait, S: Stake>(
     right
 }
 
-// The calls over the first pass.
-fn work<R: Wait>(
+// The calls over a pass that holds all lines.
+pub(super) fn make_calls<R: Wait, D: Disk>(
     rt: &R,
-    cache: &Cache<MemDisk>,
-    first: CachePass<MemDisk>,
+    cache: &Cache<D>,
+    first: CachePass<D>,
     calls: &[(Call, u32, Result<u8, Refusal>)],
-) -> (CachePass<MemDisk>, bool)
+) -> (CachePass<D>, bool)
     requires all { HasAll cache.now.turn first }
     requires sizes { (first_view cache.now.turn).opening.sizes ≡ record { block_size = 1024; blocks = 10; first_data = 3 } }
     ensures { HasAll cache.now.turn result.0 }
 {
     let mut stake = cache.stake(first);
     let right = make_all(rt, &mut stake, calls);
-    let mut first = stake.give_up();
-    cache.stop(rt, &mut first);
-    (first, right)
+    (stake.give_up(), right)
 }
 
 // Whether the answers, the log and the close are those of the row.
 fn is_so<R: Wait>(rt: &R, alloc: Global, row: &Row<'_>) -> Result<(bool, bool, bool), NoMemory> {
     let disk = disk(alloc, row.fails)?;
-    let (cache, first, worker, passes) = open(alloc, disk, 4)?;
-    let (first, right) = work(rt, &cache, first, row.calls);
+    let (cache, first, worker, passes) = open(alloc, disk, 4, SIZES)?;
+    let (mut first, right) = make_calls(rt, &cache, first, row.calls);
+    stop_all(rt, &cache, &mut first);
     let worker = cache.worker(rt, worker);
     let (disk, closed) = end(passes, cache, first, worker);
     Ok((right, disk.log() == row.log, closed.is_ok() == row.closed))

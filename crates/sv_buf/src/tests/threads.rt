@@ -1,4 +1,5 @@
-//! Sixteen threads over a few buffers: each has lines of its own, in ten blocks that are common to all.
+//! Sixteen threads over a few buffers: each has lines of its own, in ten blocks that are common to all. The seed of each random run
+//! stands in its test.
 ghost use Rattle.std.specs.Prelude.{◌≡◌, ◌+◌, ◌-◌, ◌*◌, ◌/◌, ◌<◌, [], IfSome, IfNone, IsSome, length};
 ghost use Rattle.std.specs.Thread.{IsSync};
 ghost use Rattle.sv_cache.specs.Cache.{IsBufferCount};
@@ -6,7 +7,7 @@ ghost use Rattle.sv_turn.specs.Passes.{first_view};
 ghost use Rattle.sv_buf.specs.Ending.{HasAll, IsWorkers};
 ghost use Rattle.sv_buf.specs.Sharing.{AreCut, IsFew, IsShare, KeepsLines, lines_below};
 
-use super::{disk, end, exchange, open};
+use super::{SIZES, disk, end, exchange, open, stop_all};
 use crate::NoMemory;
 use crate::cache::{Cache, CachePass};
 use std::alloc::Global;
@@ -169,7 +170,7 @@ fn work<R: Threads + Wait + Sync>(
     let stake = cache.stake(first);
     let (stake, wrong) = share(rt, alloc, stake, 0, 16, load);
     let mut first = stake.give_up();
-    cache.stop(rt, &mut first);
+    stop_all(rt, cache, &mut first);
     (first, wrong)
 }
 
@@ -232,7 +233,7 @@ fn played<R: Threads + Wait + Sync>(
     requires { IsBufferCount buffers }
 {
     let disk = disk(alloc, &[])?;
-    let (cache, first, worker, passes) = open(alloc, disk, buffers)?;
+    let (cache, first, worker, passes) = open(alloc, disk, buffers, SIZES)?;
     let (first, worker, wrong) = run(rt, alloc, &cache, first, worker, load);
     let (mut disk, closed) = end(passes, cache, first, worker);
     Ok((wrong?, closed.is_ok(), is_signed(&mut disk)))

@@ -1,6 +1,5 @@
-use Rattle.std.proofs.Common.{◌∙◌, ◌*◌, ◌++◌, [], ◌∷◌, ap, sym, subst}
+use Rattle.std.proofs.Common.{◌∙◌, ◌++◌, [], ◌∷◌, ap, sym, subst}
 use Rattle.std.specs.List.{All}
-use Rattle.sv_form.specs.declared.geometry.Geometry.{Geometry}
 use Rattle.sv_turn.specs.Passes.{first_view}
 use Rattle.sv_buf.specs.Closing.{IsBack, AreAllLines, lines_held}
 use Rattle.sv_buf.proofs.Ending.{both-back, both-lines}
@@ -18,9 +17,3 @@ close-requires-clause-lines g c =
     ∙ ap (λ ps. ps ++ c.args.worker ∷ []) (c.push_reserved.ensures.items ∙ ap (λ ps. ps ++ c.args.first ∷ []) c.requires.none) in
     subst (λ ps. AreAllLines (first_view c.args.cache.turn).opening.sizes (lines_held ps)) (sym is)
     (both-lines c.args.cache.turn c.args.first c.args.worker c.requires.all c.requires.worker)
-
-pub returns : goal.returns
-returns g c =
-    let size = ap (λ (s : Geometry). s.block_size) c.requires.sizes in
-    let blocks = ap (λ (s : Geometry). s.blocks) c.requires.sizes in
-    c.close.ensures.2.whole ∙ (ap (λ n. n * (first_view c.args.cache.turn).opening.sizes.block_size) blocks ∙ ap (λ n. 10 * n) size)

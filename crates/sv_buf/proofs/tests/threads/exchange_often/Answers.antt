@@ -1,4 +1,4 @@
-use Rattle.std.proofs.Common.{◌+◌, ◌*◌, ◌<◌, ◌%◌, ◌/◌, ◌∙◌, ap, subst, sym, arith}
+use Rattle.std.proofs.Common.{◌*◌, ◌%◌, ◌/◌, ◌∙◌, ap, subst, sym, arith}
 use Rattle.std.specs.Prelude.{IsSome}
 use Rattle.sv_store.specs.Held.{Origin}
 use Rattle.sv_buf.proofs.Sharing.{share-kept, share-get, share-place}

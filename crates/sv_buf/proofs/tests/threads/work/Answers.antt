@@ -2,28 +2,18 @@
 use Rattle.std.proofs.Common.{◌∙◌, ap, sym, subst}
 use Rattle.sv_store.specs.Held.{SameLines}
 use Rattle.sv_buf.specs.Stake.{pass_held, pass_lent, pass_origin}
-use Rattle.sv_buf.proofs.Ending.{all-kept, all-stopped}
+use Rattle.sv_buf.proofs.Ending.{all-kept}
 use Rattle.sv_buf.proofs.tests.threads.work.Goals as goal
 
-pub stop-requires-clause-own : goal.stop-requires-clause-own
-stop-requires-clause-own g c =
+pub stop_all-requires : goal.stop_all-requires
+stop_all-requires g c =
     let kept = c.share-stake.ensures.kept in
     let back = c.give_up-first.ensures in
-    (all-kept c.args.cache.now.turn c.args.first c.give_up-first.result c.requires.all
-    (ap pass_origin back.same ∙ kept.home ∙ ap pass_origin c.stake-stake.ensures)
-    back.own.1 back.fit
-    (subst (λ p. SameLines (pass_held p) (pass_held c.args.first)) (sym back.same)
-    (subst (λ p. SameLines (pass_held c.share-stake.result.0.pass) (pass_held p)) c.stake-stake.ensures kept.lines))
-    (ap pass_lent back.same ∙ kept.away ∙ ap pass_lent c.stake-stake.ensures)).own
-
-pub returns : goal.returns
-returns g c =
-    let kept = c.share-stake.ensures.kept in
-    let back = c.give_up-first.ensures in
-    all-stopped c.args.cache.now.turn c.give_up-first.result c.stop.new.pass (all-kept c.args.cache.now.turn c.args.first c.give_up-first.result c.requires.all
-    (ap pass_origin back.same ∙ kept.home ∙ ap pass_origin c.stake-stake.ensures)
-    back.own.1 back.fit
-    (subst (λ p. SameLines (pass_held p) (pass_held c.args.first)) (sym back.same)
-    (subst (λ p. SameLines (pass_held c.share-stake.result.0.pass) (pass_held p)) c.stake-stake.ensures kept.lines))
-    (ap pass_lent back.same ∙ kept.away ∙ ap pass_lent c.stake-stake.ensures))
-    c.stop.ensures.same.0 c.stop.ensures.same.1 c.stop.ensures.view
+    record {
+      all = all-kept c.args.cache.now.turn c.args.first c.give_up-first.result c.requires.all
+          (ap pass_origin back.same ∙ kept.home ∙ ap pass_origin c.stake-stake.ensures)
+          back.own.1 back.fit
+          (subst (λ p. SameLines (pass_held p) (pass_held c.args.first)) (sym back.same)
+          (subst (λ p. SameLines (pass_held c.share-stake.result.0.pass) (pass_held p)) c.stake-stake.ensures kept.lines))
+          (ap pass_lent back.same ∙ kept.away ∙ ap pass_lent c.stake-stake.ensures);
+    }
