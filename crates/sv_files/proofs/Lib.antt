@@ -1,4 +1,5 @@
 mod Answering
+mod BodyRead
 mod ChainCuts
 mod ConverseChain
 mod ConverseDots
@@ -13,6 +14,7 @@ mod ConverseWalk
 mod CountedTests
 mod EachReached
 mod Ending
+mod Finding
 mod FreeChainHeld
 mod FreeInodes
 mod HeldBytes
@@ -21,10 +23,12 @@ mod HeldPages
 mod HeldTree
 mod Hits
 mod HomeStakes
+mod InodeLines
 mod InodeStands
 mod JoinedTimes
 mod LineRead
 mod Locking
+mod LookLegal
 mod Moves
 mod NodePages
 mod NotedLines
@@ -33,9 +37,11 @@ mod OwnClose
 mod PurgedAtRest
 mod RangeTests
 mod RestedNodes
+mod Searched
 mod SoundAtRest
 mod SpotPaths
 mod StatLegal
+mod TableSet
 mod TreeCodes
 mod TreeNeeds
 mod TreeRows

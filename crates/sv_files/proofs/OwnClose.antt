@@ -72,22 +72,22 @@ each_of true true false e = absurd (false≢true e)
 each_of true false u e = absurd (false≢true e)
 each_of false t u e = absurd (false≢true e)
 
-both_true : (s t : Bool) → (s || t) ≡ true → s ≡ false → t ≡ true
+pub both_true : (s t : Bool) → (s || t) ≡ true → s ≡ false → t ≡ true
 both_true true t e f = absurd (false≢true (sym f))
 both_true false t e f = e
 
 -- how often a block stands in a list, counted by a test
-times-hits : (b : ℕ) (xs : List ℕ) → times b xs ≡ hits (λ x. x == b) xs
+pub times-hits : (b : ℕ) (xs : List ℕ) → times b xs ≡ hits (λ x. x == b) xs
 unfolding times
 times-hits b [] = refl
 times-hits b (x ∷ xs) = ap (λ (k : ℕ). one_if (x == b) + k) (times-hits b xs)
 
 -- what is found in a filtered range
-record IsFoundAt (p q : ℕ → Bool) (a m n : ℕ) : Type 0 where
-  low : a ≤ n
-  high : n < a + m
-  left : q n ≡ true
-  passes : p n ≡ true
+pub record IsFoundAt (p q : ℕ → Bool) (a m n : ℕ) : Type 0 where
+  pub low : a ≤ n
+  pub high : n < a + m
+  pub left : q n ≡ true
+  pub passes : p n ≡ true
 
 found_wider : (p q : ℕ → Bool) (a m n : ℕ) → IsFoundAt p q (a + 1) m n → IsFoundAt p q a (suc m) n
 found_wider p q a m n f = record {
@@ -117,11 +117,11 @@ found_step p q a m n true true left passes rest e =
 found_step p q a m n true false left passes rest e =
     found_wider p q a m n (rest (sym (ap (λ (t : Bool). cond t (Some a) (find p (filter q (range_with_len (a + 1) m)))) passes) ∙ e))
 
-found_at : (p q : ℕ → Bool) (m a n : ℕ) → find p (filter q (range_with_len a m)) ≡ Some n → IsFoundAt p q a m n
+pub found_at : (p q : ℕ → Bool) (m a n : ℕ) → find p (filter q (range_with_len a m)) ≡ Some n → IsFoundAt p q a m n
 found_at p q zero a n e = let no : ⊥ = cc e in absurd no
 found_at p q (suc m) a n e = found_step p q a m n (q a) (p a) refl refl (found_at p q m (a + 1) n) e
 
-some_found : (o : Option ℕ) (n : ℕ) → 1 ≤ n → unwrap_or o 0 ≡ n → o ≡ Some n
+pub some_found : (o : Option ℕ) (n : ℕ) → 1 ≤ n → unwrap_or o 0 ≡ n → o ≡ Some n
 some_found None n least e = absurd (omega (arith, e, least))
 some_found (Some k) n least e = ap (λ (x : ℕ). Some x) e
 
@@ -175,7 +175,7 @@ module _ (image : List ℕ) where
   same_lines : (a b : List ℕ) → Some a ≡ Some b → a ≡ b
   same_lines a b e = ap (λ (o : Option (List ℕ)). unwrap_or o []) e
 
-  lines : (n : ℕ) → HasLines g image (owned_by image n)
+  pub lines : (n : ℕ) → HasLines g image (owned_by image n)
   lines n = record {
     at = λ b l line e.
         (let o = held-own n b l (some_of (owned_by image n b l) line e) in same_lines line (line_of (block_of g image b) l) (sym e ∙ o.is));
@@ -293,16 +293,16 @@ module _ (image : List ℕ) where
 
     -- ---- a used inode
 
-    same-nodes : tree image ≡ nodes_to g image (inode_count g)
+    pub same-nodes : tree image ≡ nodes_to g image (inode_count g)
     unfolding tree used_inodes
     same-nodes = refl
 
-    used-node : (n : ℕ) → IsUsedInode g image n → fmap.get (tree image) n ≡ Some (node_of g image (inode_of g image n))
+    pub used-node : (n : ℕ) → IsUsedInode g image n → fmap.get (tree image) n ≡ Some (node_of g image (inode_of g image n))
     used-node n u =
         ap (λ (m : fmap.FinMap nat_cmp Node). fmap.get m n) same-nodes
         ∙ used_tree g image n u.least (let most = u.most in omega (arith, most)) u.used
 
-    node-used : (n : ℕ) (node : Node) → fmap.get (tree image) n ≡ Some node → IsUsedInode g image n
+    pub node-used : (n : ℕ) (node : Node) → fmap.get (tree image) n ≡ Some node → IsUsedInode g image n
     node-used n node there =
         let i = tree_used g image n node (ap (λ (m : fmap.FinMap nat_cmp Node). fmap.get m n) (sym same-nodes) ∙ there) in
         let low = i.low in
@@ -324,7 +324,7 @@ module _ (image : List ℕ) where
     or_first false b e = absurd (false≢true e)
 
     -- the line of a used inode is its own
-    own-line : (n : ℕ) → IsUsedInode g image n → line_owner g image (inode_place g n) ≡ n
+    pub own-line : (n : ℕ) → IsUsedInode g image n → line_owner g image (inode_place g n) ≡ n
     unfolding line_owner used_inodes
     own-line n u =
         let p : Place = inode_place g n in
@@ -352,7 +352,7 @@ module _ (image : List ℕ) where
         (within g image sizes long no_bad others (holds 0) n u.least u.most) (own-line n u)
         ∙ ap (λ (x : List ℕ). Some x) (sym (same_line g image (inode_place g n)))
 
-    line-long : (n : ℕ) → IsUsedInode g image n → length (inode_of g image n) ≡ 64
+    pub line-long : (n : ℕ) → IsUsedInode g image n → length (inode_of g image n) ≡ 64
     line-long n u =
         let place = within g image sizes long no_bad others (holds 0) n u.least u.most in
         let b : ℕ = (inode_place g n).block in
@@ -367,15 +367,15 @@ module _ (image : List ℕ) where
         let low = place.line in
         omega (arith, cut, same, block, size, rows, low)
 
-    record HasBody (n : ℕ) : Type 0 where
-      body : InodeBody
-      spelled : IsInode (inode_of g image n) (Used body)
+    pub record HasBody (n : ℕ) : Type 0 where
+      pub body : InodeBody
+      pub spelled : IsInode (inode_of g image n) (Used body)
 
     body_step : (n : ℕ) (i : DiskInode) → IsUsedInode g image n → IsInode (inode_of g image n) i → HasBody n
     body_step n Free u spelled = absurd (false≢true (sym u.used ∙ shows_inode (inode_of g image n) Free spelled))
     body_step n (Used body) u spelled = record { body = body; spelled = spelled }
 
-    body-of : (n : ℕ) → IsUsedInode g image n → HasBody n
+    pub body-of : (n : ℕ) → IsUsedInode g image n → HasBody n
     unfolding kind_flaw
     body-of n u =
         let most = u.most in

@@ -4,10 +4,15 @@ use Rattle.sv_dev.specs.Causes.{last_count}
 use Rattle.sv_form.specs.Geometry.{IsNumber, inode_place}
 use Rattle.sv_form.specs.Inode.{IsInode}
 use Rattle.sv_form.specs.Node.{Node}
+use Rattle.sv_form.specs.PagePath.{greatest_size}
 use Rattle.sv_form.specs.declared.inode.DiskInode.TheVariants.{Used}
 use Rattle.sv_form.specs.declared.inode.InodeBody.{InodeBody}
 use Rattle.sv_store.specs.Held.{Held, Origin, nothing_lent}
 use Rattle.sv_plain.specs.declared.history.entry.Entry.{Entry}
+use Rattle.sv_plain.specs.declared.history.op.Op.{Op}
+use Rattle.sv_plain.specs.declared.history.op.Op.TheVariants as op
+use Rattle.sv_plain.specs.declared.history.reply.Reply.{Reply}
+use Rattle.sv_plain.specs.declared.history.reply.Reply.TheVariants as reply
 use Rattle.sv_plain.specs.Fs.{Fs}
 use Rattle.sv_plain.specs.Names.{references_of}
 use Rattle.sv_plain.specs.Step.{Step}
@@ -36,8 +41,17 @@ locks_rise (k ∷ ks) now = rise k.faults now
 abbrev pub failed : ℕ → Proc → Proc
 failed n p = record p { faults = p.faults + n }
 
+-- the references of a process after a step with this reply
+abbrev pub references_after : Op → Reply → List ℕ → List ℕ
+references_after (op.Look dir name) (reply.Found i) references = i ∷ references
+references_after _ _ references = references
+
 abbrev pub answered : Entry → ℕ → Proc → Proc
-answered e n p = record p { faults = p.faults + n; entries = p.entries ++ e ∷ [] }
+answered e n p = record p {
+  references = references_after e.op e.reply p.references;
+  faults = p.faults + n;
+  entries = p.entries ++ e ∷ [];
+}
 
 -- the view with an inode locked
 abbrev pub locked_view : ℕ → Option InCore → Seen → View → View
@@ -70,16 +84,18 @@ pub record IsStill (k : Lock) (n : ℕ) (core : Option InCore) (z : Seen) : Type
   pub forced : z.forced ≡ k.forced
   pub no_less : k.faults ≤ z.faults
 
--- What the pass's own view says of a file system: it is whole, the references of its processes are those of the view, and each
--- locked inode stands for its node.
+-- What the pass's own view says of a file system: it is whole, the references of its processes are those of the view, each locked
+-- inode stands for its node, and its blocks have the size of the image's.
 pub record Sees (v : View) (fs : Fs) : Type 0 where
   pub whole : IsWhole fs
   pub references : Each (λ p. (i : ℕ) → references_of fs p.process i ≡ times i p.references) v.procs
   pub locked : Each (λ k. IsNodeOf k.origin fs.nodes k.number k.core (lock_seen k)) v.locks
+  pub block : Each (λ k. fs.block ≡ k.origin.sizes.block_size) v.locks
 
 -- In each file system that the view allows, the entry is a step that changes nothing.
-abbrev pub KeepsAll : View → Entry → Type 0
-KeepsAll v e = (fs : Fs) → Sees v fs → Step fs e.process e.op e.reply fs
+pub record KeepsAll (v : View) (e : Entry) : Type 0 where
+  pub none : (references : List ℕ) → references_after e.op e.reply references ≡ references
+  pub steps : (fs : Fs) → Sees v fs → Step fs e.process e.op e.reply fs
 
 -- it is an entry of the pass's process
 abbrev pub IsEntryOf : View → Entry → Type 0
@@ -97,8 +113,9 @@ pub record HoldsUsedLine (o : Origin) (h : Held) (n : ℕ) : Type 0 where
   pub there : h (inode_place o.sizes n).block (inode_place o.sizes n).line ≡ Some line
   pub spelled : IsInode line (Used body)
 
--- some node is what the stake of inode n stands for
+-- some node, no larger than a file can be, is what the stake of inode n stands for
 pub record StandsForSome (n : ℕ) (core : Option InCore) (z : Seen) : Type 0 where
   pub origin : Origin
   pub node : Node
   pub stands : StandsAs origin n core z node
+  pub size : node.size ≤ greatest_size origin.sizes

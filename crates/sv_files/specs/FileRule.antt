@@ -1,7 +1,7 @@
 -- The rule of the file turn: what holds of the state and of all views whenever the turn is free. It has named parts, each over the
 -- fields that it names, so that what changes none of them keeps it.
 use Rattle.std.specs.Prelude.{◌≡◌, ◌+◌, ◌*◌, ◌<◌, ◌≤◌, ◌==◌, ◌&&◌, ℕ, zero, suc, Bool, true, false, List, [], ◌∷◌, ◌++◌, length, min}
-use Rattle.std.specs.Prelude.{Option, Some, None, is_some, nat_lt, nat_eq}
+use Rattle.std.specs.Prelude.{Option, Some, None, is_some, nat_lt, nat_eq, slice_index}
 use Rattle.std.specs.Ordering.{nat_cmp}
 use Rattle.std.specs.FinMap as map
 use Rattle.indexmap.specs.IndexMap as table
@@ -9,6 +9,7 @@ use Rattle.sv_dev.specs.Causes.{last_count}
 use Rattle.sv_form.specs.Geometry.{IsNumber, inode_count, inode_place}
 use Rattle.sv_form.specs.Inode.{IsInode}
 use Rattle.sv_form.specs.Node.{Node}
+use Rattle.sv_form.specs.PagePath.{greatest_size}
 use Rattle.sv_form.specs.declared.geometry.Geometry.{Geometry}
 use Rattle.sv_form.specs.declared.inode.DiskInode.TheVariants.{Used}
 use Rattle.sv_form.specs.declared.inode.InodeBody.{InodeBody}
@@ -21,9 +22,10 @@ use Rattle.sv_plain.specs.declared.history.op.Op.{Op}
 use Rattle.sv_plain.specs.declared.history.op.Op.TheVariants as op
 use Rattle.sv_plain.specs.declared.history.reply.Reply.{Reply}
 use Rattle.sv_plain.specs.declared.history.reply.Reply.TheVariants as reply
-use Rattle.sv_plain.specs.Fs.{Fs}
+use Rattle.sv_plain.specs.Fs.{Fs, places_taken}
 use Rattle.sv_plain.specs.History.{Leads, own}
 use Rattle.sv_plain.specs.Names.{references_of}
+use Rattle.sv_plain.specs.Shares.{shares_of}
 use Rattle.sv_plain.specs.Totals.{one_if}
 use Rattle.sv_plain.specs.Whole.{IsWhole}
 use Rattle.sv_files.specs.declared.in_core.InCore.{InCore}
@@ -38,6 +40,7 @@ pub record Follows (m : Mount) (history : List Entry) (fs : Fs) : Type 0 where
   pub whole : IsWhole fs
   pub block : fs.block ≡ m.origin.sizes.block_size
   pub inodes : fs.inodes ≡ inode_count m.origin.sizes
+  pub greatest : fs.greatest ≡ greatest_size m.origin.sizes
 
 -- ---- inodes at home or locked
 
@@ -102,6 +105,19 @@ pub record Agrees (m : Mount) (fs : Fs) (history : List Entry) (procs : List Pro
   pub once : (q : ℕ) → total (names q) procs ≤ 1
   pub each : Each (IsAgreed m fs history) procs
 
+-- how many entries a process is owed: each of its references is given back by one
+abbrev pub owes : Proc → ℕ
+owes p = length p.references
+
+-- ---- how often inodes are referred to
+
+-- The counts are the shares of each inode, and so many inodes have some. The table of in-core inodes has a place for each of them.
+pub record Counts (fs : Fs) (counts : List ℕ) (taken places : ℕ) : Type 0 where
+  pub size : length counts ≡ fs.inodes + 1
+  pub each : (i : ℕ) → i ≤ fs.inodes → slice_index counts i ≡ shares_of fs i
+  pub all : taken ≡ places_taken fs.inodes fs.references fs.files
+  pub room : fs.places ≡ places
+
 -- ---- all stakes together
 
 -- f of each stake: of the one that holds all that no node uses, of those at home, and of those that are out
@@ -164,16 +180,41 @@ pub record Unforced {S : Type 0} (seen : S → Seen) (m : Mount) (history : List
 abbrev pub core_of : {S : Type 0} → State S → ℕ → Option InCore
 core_of s n = table.get nat_eq s.table n
 
--- The parts, over the history, the stakes at home, what is kept in core, the stake of the rest, all processes and all locks.
-pub record Parts {S : Type 0} (seen : S → Seen) (m : Mount) (history : List Entry) (stakes : List (Option S))
-    (core : ℕ → Option InCore) (rest : S) (procs : List Proc) (locks : List Lock) : Type 0 where
-  pub fs : Fs
-  pub follows : Follows m history fs
-  pub homes : Homes seen m.origin fs.nodes stakes core locks
-  pub agrees : Agrees m fs history procs
-  pub lines : Lines seen m.origin rest stakes locks
-  pub counted : Counted seen rest stakes locks procs
-  pub unforced : Unforced seen m history rest stakes locks
+-- What the turn guards: the history with the number of entries that are owed, the stakes at home, what is kept in core, the stake of
+-- the rest, and the counts of shares with the numbers of places that are taken and that there are.
+pub record Guarded (S : Type 0) : Type 0 where
+  pub history : List Entry
+  pub owed : ℕ
+  pub stakes : List (Option S)
+  pub core : ℕ → Option InCore
+  pub rest : S
+  pub counts : List ℕ
+  pub taken : ℕ
+  pub places : ℕ
+
+abbrev pub guarded : {S : Type 0} → State S → Guarded S
+guarded s = record {
+  history = s.history.entries.items;
+  owed = s.history.owed;
+  stakes = s.stakes.items;
+  core = core_of s;
+  rest = s.rest.stake;
+  counts = s.references.counts.items;
+  taken = s.references.taken;
+  places = s.references.places;
+}
+
+-- The parts, over what is guarded, all processes and all locks. The history leads to fs.
+pub record Parts {S : Type 0} (seen : S → Seen) (m : Mount) (fs : Fs) (g : Guarded S) (procs : List Proc) (locks : List Lock)
+    : Type 0 where
+  pub follows : Follows m g.history fs
+  pub homes : Homes seen m.origin fs.nodes g.stakes g.core locks
+  pub agrees : Agrees m fs g.history procs
+  pub shared : Counts fs g.counts g.taken g.places
+  pub owed : g.owed ≡ total owes procs
+  pub lines : Lines seen m.origin g.rest g.stakes locks
+  pub counted : Counted seen g.rest g.stakes locks procs
+  pub unforced : Unforced seen m g.history g.rest g.stakes locks
 
 -- a view that stands for something knows what was mounted
 abbrev pub IsMountOf : Mount → View → Type 0
@@ -181,8 +222,9 @@ IsMountOf m v = 0 < length v.procs → v.mount ≡ m
 
 pub record Holds {S : Type 0} (seen : S → Seen) (s : State S) (views : List View) : Type 0 where
   pub mount : Mount
+  pub fs : Fs
   pub same : Each (IsMountOf mount) views
-  pub parts : Parts seen mount s.history.items s.stakes.items (core_of s) s.rest.stake (all_procs views) (all_locks views)
+  pub parts : Parts seen mount fs (guarded s) (all_procs views) (all_locks views)
 
 -- The processes are divided, and nothing is locked.
 pub record IsCut (v a b : View) : Type 0 where

@@ -20,6 +20,7 @@ use Rattle.sv_super.specs.Calls.{CanMount, CanMountInodes, is_free as is_free_bl
 use Rattle.sv_super.specs.Core.{HoldsOnly}
 use Rattle.sv_super.specs.Count.{one_if}
 use Rattle.sv_inode.specs.StandsFor.{StandsFor}
+use Rattle.sv_inode.specs.Truncate as inode
 
 -- inode n of the image is in use
 pub record IsUsedInode (g : Geometry) (image : List ℕ) (n : ℕ) : Type 0 where
@@ -75,3 +76,11 @@ abbrev pub FreeBlocksAlone : Type 0
 FreeBlocksAlone = (image : List ℕ) → IsChained image → (t : OwnerTable) → TellsOwners (geometry_of image) image t
     → (o : Origin) → o.sizes ≡ geometry_of image → (h : Held) → HoldsLinesOf (geometry_of image) image 0 h
     → HoldsNoOther (geometry_of image) image 0 h → HoldsOnly o h (λ b. one_if (is_free_block t b))
+
+-- Where the first nine conditions hold, and exactly the lines of a used inode are held, no line is held but the inode's own and those of
+-- the blocks of its address tree.
+abbrev pub InodeLinesAlone : Type 0
+InodeLinesAlone = (image : List ℕ) → IsWalked image → (n : ℕ) → IsUsedInode (geometry_of image) image n
+    → (o : Origin) → o.sizes ≡ geometry_of image → (h : Held) → HoldsLinesOf (geometry_of image) image n h
+    → HoldsNoOther (geometry_of image) image n h
+    → (body : InodeBody) → IsInode (inode_of (geometry_of image) image n) (Used body) → inode.HoldsOnly o h n body.addresses

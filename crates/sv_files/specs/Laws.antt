@@ -11,8 +11,9 @@ use Rattle.sv_plain.specs.declared.history.entry.Entry.{Entry}
 use Rattle.sv_files.specs.declared.in_core.InCore.{InCore}
 use Rattle.sv_files.specs.declared.state.State.{State}
 use Rattle.sv_files.specs.View.{View, Mount, Proc, Lock, Seen, Each, blank, weight, lock_seen, all_procs, all_locks}
-use Rattle.sv_files.specs.FileRule.{IsAgreed, IsCut, IsLocked, IsMountOf, Holds, Parts}
-use Rattle.sv_files.specs.FileRule.{core_of, faulty, forcings, has_line, locks_on, names, over_all, proc_faults}
+use Rattle.sv_files.specs.FileRule.{Guarded, IsAgreed, IsCut, IsLocked, IsMountOf, Holds, Parts}
+use Rattle.sv_files.specs.FileRule.{faulty, forcings, guarded, has_line, locks_on, names, over_all, owes, proc_faults}
+use Rattle.sv_plain.specs.Fs.{Fs}
 
 module _ {A : Type 0} where
   pub total-append : (f : A → ℕ) (xs ys : List A) → total f (xs ++ ys) ≡ total f xs + total f ys
@@ -101,60 +102,61 @@ module _ {S : Type 0} where
       → ((g : Lock → ℕ) → total g ls ≡ total g ks) → over_all seen f rest stakes ls ≡ over_all seen f rest stakes ks
   over-same seen f rest stakes ks ls same = let e = same (λ k. f (lock_seen k)) in omega arith
 
-  same-parts : (seen : S → Seen) (m : Mount) (history : List Entry) (stakes : List (Option S)) (core : ℕ → Option InCore) (rest : S)
-      (ps qs : List Proc) (ks ls : List Lock) → SameTotals ps qs ks ls → Parts seen m history stakes core rest ps ks
-      → Parts seen m history stakes core rest qs ls
-  same-parts seen m history stakes core rest ps qs ks ls same h = record {
-    fs = h.fs;
+  same-parts : (seen : S → Seen) (m : Mount) (fs : Fs) (g : Guarded S) (ps qs : List Proc) (ks ls : List Lock) → SameTotals ps qs ks ls
+      → Parts seen m fs g ps ks → Parts seen m fs g qs ls
+  same-parts seen m fs g ps qs ks ls same h = record {
     follows = h.follows;
     homes = record {
       size = h.homes.size;
       once = λ n. let e = same.locks (locks_on n) in let once = h.homes.once n in omega arith;
       home = h.homes.home;
-      away = same.each_lock (IsLocked m.origin h.fs.nodes core) h.homes.away;
+      away = same.each_lock (IsLocked m.origin fs.nodes g.core) h.homes.away;
     };
     agrees = record {
       once = λ q. let e = same.procs (names q) in let once = h.agrees.once q in omega arith;
-      each = same.each_proc (IsAgreed m h.fs history) h.agrees.each;
+      each = same.each_proc (IsAgreed m fs g.history) h.agrees.each;
     };
+    shared = h.shared;
+    owed = h.owed ∙ sym (same.procs owes);
     lines = record {
       origin = h.lines.origin;
-      once = λ b l. over-same seen (has_line b l) rest stakes ks ls same.locks ∙ h.lines.once b l;
+      once = λ b l. over-same seen (has_line b l) g.rest g.stakes ks ls same.locks ∙ h.lines.once b l;
     };
     counted = record {
       each = same.each_proc (λ p. total faulty p.entries ≤ p.faults) h.counted.each;
-      all = rw (same.procs proc_faults, over-same seen (λ z. z.faults) rest stakes ks ls same.locks) h.counted.all;
+      all = rw (same.procs proc_faults, over-same seen (λ z. z.faults) g.rest g.stakes ks ls same.locks) h.counted.all;
     };
     unforced = record {
-      none = λ calm first. over-same seen forcings rest stakes ks ls same.locks ∙ h.unforced.none calm first;
+      none = λ calm first. over-same seen forcings g.rest g.stakes ks ls same.locks ∙ h.unforced.none calm first;
     };
   }
 
   pub in_any_order : (seen : S → Seen) (s : State S) (xs ys : List View) → IsPermutation xs ys → Holds seen s xs → Holds seen s ys
   in_any_order seen s xs ys p h = record {
     mount = h.mount;
+    fs = h.fs;
     same = each-permutation (IsMountOf h.mount) xs ys p h.same;
-    parts = same-parts seen h.mount s.history.items s.stakes.items (core_of s) s.rest.stake (all_procs xs) (all_procs ys) (all_locks xs)
-        (all_locks ys) (same-order xs ys p) h.parts;
+    parts = same-parts seen h.mount h.fs (guarded s) (all_procs xs) (all_procs ys) (all_locks xs) (all_locks ys) (same-order xs ys p) h.parts;
   }
 
   pub with_blank : (seen : S → Seen) (s : State S) (xs : List View) → Holds seen s xs → Holds seen s (blank ∷ xs)
-  with_blank seen s xs h = record { mount = h.mount; same = (λ some. absurd (omega arith), h.same); parts = h.parts }
+  with_blank seen s xs h = record { mount = h.mount; fs = h.fs; same = (λ some. absurd (omega arith), h.same); parts = h.parts }
 
   pub without_blank : (seen : S → Seen) (s : State S) (xs : List View) → Holds seen s (blank ∷ xs) → Holds seen s xs
-  without_blank seen s xs h = record { mount = h.mount; same = h.same.1; parts = h.parts }
+  without_blank seen s xs h = record { mount = h.mount; fs = h.fs; same = h.same.1; parts = h.parts }
 
   pub in_two : (seen : S → Seen) (s : State S) (v a b : View) (xs : List View) → IsCut v a b → Holds seen s (v ∷ xs)
       → Holds seen s (a ∷ b ∷ xs)
   in_two seen s v a b xs cut h = record {
     mount = h.mount;
+    fs = h.fs;
     same = (
       λ some. cut.mount.0 ∙ h.same.0 (rw cut.procs (omega (arith, length-append a.procs b.procs, some))),
       (λ some. cut.mount.1 ∙ h.same.0 (rw cut.procs (omega (arith, length-append a.procs b.procs, some))), h.same.1),
     );
-    parts = subst (λ ps. Parts seen h.mount s.history.items s.stakes.items (core_of s) s.rest.stake ps (all_locks (a ∷ b ∷ xs))) (sym
+    parts = subst (λ ps. Parts seen h.mount h.fs (guarded s) ps (all_locks (a ∷ b ∷ xs))) (sym
         (cut-procs v a b xs cut))
-        (subst (λ ks. Parts seen h.mount s.history.items s.stakes.items (core_of s) s.rest.stake (all_procs (v ∷ xs)) ks) (sym (cut-locks
+        (subst (λ ks. Parts seen h.mount h.fs (guarded s) (all_procs (v ∷ xs)) ks) (sym (cut-locks
         v a b xs cut)) h.parts);
   }
 
@@ -162,10 +164,11 @@ module _ {S : Type 0} where
       → Holds seen s (v ∷ xs)
   in_one seen s v a b xs cut h = record {
     mount = h.mount;
+    fs = h.fs;
     same = (λ some. sym cut.mount.0 ∙ h.same.0 cut.some.0, h.same.1.1);
-    parts = subst (λ ps. Parts seen h.mount s.history.items s.stakes.items (core_of s) s.rest.stake ps (all_locks (v ∷ xs))) (cut-procs v
+    parts = subst (λ ps. Parts seen h.mount h.fs (guarded s) ps (all_locks (v ∷ xs))) (cut-procs v
         a b xs cut)
-        (subst (λ ks. Parts seen h.mount s.history.items s.stakes.items (core_of s) s.rest.stake (all_procs (a ∷ b ∷ xs)) ks) (cut-locks
+        (subst (λ ks. Parts seen h.mount h.fs (guarded s) (all_procs (a ∷ b ∷ xs)) ks) (cut-locks
         v a b xs cut) h.parts);
   }
 

@@ -9,6 +9,7 @@ pub mod ConverseSound
 pub mod FileRule
 pub mod FromImage
 pub mod Laws
+pub mod Looking
 pub mod NodeBlocks
 pub mod RoundTrip
 pub mod View

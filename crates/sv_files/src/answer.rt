@@ -1,5 +1,5 @@
 // How a call ends that has one inode locked: its entry is added, its stake goes home, and it leaves.
-ghost use Rattle.std.specs.Prelude.{◌≡◌, ◌∷◌, [], ◌++◌, OnErr, OnOk};
+ghost use Rattle.std.specs.Prelude.{◌≡◌, OnErr, OnOk};
 ghost use Rattle.sv_turn.specs.Passes.{pass_view, IsOut, IsPassOf, IsSamePass, MayLeave, turn_events};
 ghost use Rattle.sv_files.specs.View.{Lock, weight, seen_by};
 ghost use Rattle.sv_files.specs.FileRule.{Holds};
@@ -18,17 +18,8 @@ use sv_plain::Entry;
 use sv_store::Stake;
 use sv_turn::{NewView, Pass, Turn};
 
-// Adds an entry to the history.
-fn push_entry(history: &mut Vec<Entry>, entry: Entry) -> Result<(), NoMemory>
-    ensures ok { OnOk result (history.new.items ≡ history.old.items ++ entry ∷ []) }
-    ensures err { OnErr result (history.new.items ≡ history.old.items) }
-{
-    history.push(entry)?;
-    Ok(())
-}
-
 // Leaves as `Turn::leave` does. The inode's number names the stake that came home, and so the new view.
-fn leave_home<N: NewView<View>, S: Stake>(
+pub fn leave_home<N: NewView<View>, S: Stake>(
     turn: &Turn<FileRule<S>>,
     pass: &mut Pass<FileRule<S>>,
     state: State<S>,
@@ -45,7 +36,7 @@ fn leave_home<N: NewView<View>, S: Stake>(
 }
 
 // The same, after an entry was added, which names the new view too.
-fn leave_answered<N: NewView<View>, S: Stake>(
+pub fn leave_answered<N: NewView<View>, S: Stake>(
     turn: &Turn<FileRule<S>>,
     pass: &mut Pass<FileRule<S>>,
     state: State<S>,
@@ -88,7 +79,7 @@ pub fn answer<R: Wait, S: Stake>(
     } = locked;
     let mut state = turn.enter(rt, pass);
     put_stake(&mut state.stakes, number, stake);
-    match push_entry(&mut state.history, entry) {
+    match state.history.push(entry) {
         Ok(()) => {
             leave_answered::<Brand, S>(turn, pass, state, number);
             turn.wake(inode_event(number));

@@ -8,7 +8,7 @@ ghost use Rattle.sv_form.specs.declared.inode.DiskInode.TheVariants.{Used};
 ghost use Rattle.sv_store.specs.Causes.{HasFault};
 ghost use Rattle.sv_store.specs.Frames.{Unchanged};
 ghost use Rattle.sv_store.specs.Held.{Origin, nothing_lent};
-ghost use Rattle.sv_inode.specs.StandsFor.{IsDescribed};
+ghost use Rattle.sv_inode.specs.StandsFor.{StandsFor};
 ghost use Rattle.sv_files.specs.View.{seen_by};
 ghost use Rattle.sv_files.specs.FileRule.{StandsAs};
 ghost use Rattle.sv_files.specs.Adding.{HoldsUsedLine, StandsForSome};
@@ -57,7 +57,7 @@ pub fn body_of<R: Wait, S: Stake>(rt: &R, locked: &mut Locked<S>) -> Result<Inod
         (seen_by S.held S.lent S.origin S.faults S.forced locked.old.stake) }
     ensures node { IfOk result (λ body. (o : Origin) (node : Node)
         → StandsAs o locked.old.number locked.old.core (seen_by S.held S.lent S.origin S.faults S.forced locked.old.stake) node
-        → IsDescribed body node) }
+        → StandsFor o (S.held locked.old.stake) body node) }
     ensures number { locked.new.number ≡ locked.old.number }
     ensures core { locked.new.core ≡ locked.old.core }
     ensures stake { Unchanged S.held S.lent S.origin S.forced locked.old.stake locked.new.stake }

@@ -3,10 +3,12 @@ ghost use Rattle.std.specs.Prelude.{◌≡◌, ◌<◌, ◌≤◌, ◌^◌, ◌�
 ghost use Rattle.sv_turn.specs.Passes.{pass_view, IsOut, IsPassOf, IsSamePass, first_view, turn_events};
 ghost use Rattle.sv_files.specs.Calls.{Adds, AddsNothing, CanStat, HasHistory, IsViewOf};
 ghost use Rattle.sv_files.specs.FileRule.{Holds};
+ghost use Rattle.sv_files.specs.Looking.{CanLook};
 ghost use Rattle.sv_files.specs.View.{seen_by, weight};
 
 use crate::NoMemory;
 use crate::event::INODE_EVENTS;
+use crate::look::look_up;
 use crate::rule::FileRule;
 use crate::stat::stat_inode;
 use crate::state::State;
@@ -66,13 +68,36 @@ impl<S: Stake> Files<S> {
         stat_inode(rt, &self.turn, &mut pass.pass, pass.process, ino)
     }
 
+    /// Looks a name up in a directory to which the process has a reference, and takes a reference to the child (Bach, chapter 4.4,
+    /// one turn of algorithm namei, and algorithm iget): `Full` where all places of the table are taken and the child has none. The
+    /// entry of the process that is added is legal where it stands, as the rule of the turn says. Without memory none is added. It
+    /// waits while another process has the directory locked.
+    pub fn look<R: Wait>(&self, rt: &R, pass: &mut FilePass<S>, op: Op) -> Result<Reply, NoMemory>
+        requires own { IsPassOf self.now.turn pass.old.pass }
+        requires can { (mine : IsViewOf pass.old.process (pass_view pass.old.pass)) × CanLook mine.proc op }
+        ensures same { IsSamePass pass.old.pass pass.new.pass }
+        ensures process { pass.new.process ≡ pass.old.process }
+        ensures ok { IfOk result (λ reply. Adds (pass_view pass.old.pass) (pass_view pass.new.pass)
+            (record { process = pass.old.process; op = op; reply = reply })) }
+        ensures err { OnErr result (AddsNothing (pass_view pass.old.pass) (pass_view pass.new.pass)) }
+    {
+        let Op::Look {
+            dir,
+            name,
+        } = op
+        else {
+            unreachable!()
+        };
+        look_up(rt, &self.turn, &mut pass.pass, pass.process, dir, name)
+    }
+
     /// Ends the turn, by the pass that stands for all processes. Its history is legal from what was mounted, with each
     /// process's entries in their order.
     pub(crate) fn end(self, pass: Pass<FileRule<S>>) -> State<S>
         requires own { IsPassOf self.turn pass }
         requires away { IsOut pass }
         requires whole { weight (pass_view pass) ≡ weight (first_view self.turn) }
-        ensures { HasHistory (pass_view pass) result.history.items }
+        ensures { HasHistory (pass_view pass) result.history.entries.items }
     {
         let Files { turn } = self;
         turn.close(pass)

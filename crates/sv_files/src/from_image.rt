@@ -1,11 +1,17 @@
 // From an image to held lines, without code.
-ghost use Rattle.sv_files.specs.FromImage.{FreeBlocksAlone, FreeBlocksMount, FreeInodesMount, InodesStandForNodes};
+ghost use Rattle.sv_files.specs.FromImage.{FreeBlocksAlone, FreeBlocksMount, FreeInodesMount, InodeLinesAlone, InodesStandForNodes};
 
 /// Where the first nine conditions of an image hold, a stake that holds the lines of a used inode with the image's bytes holds
 /// what stands for the inode's node of the tree: its body, its address tree, and each page with its bytes. What else the stake
 /// holds is left open.
 pub fn inodes_stand_for_nodes()
     ensures { InodesStandForNodes }
+{}
+
+/// Where the first nine conditions of an image hold, a stake that holds the lines of a used inode, and no others, holds the
+/// inode's own line and lines of the blocks of its address tree, and nothing else.
+pub fn inode_lines_alone()
+    ensures { InodeLinesAlone }
 {}
 
 /// Where the first nine conditions and that of the cache of free inodes hold, a stake that holds the lines of nobody has all

@@ -3,10 +3,11 @@
 //! - `Files` has the in-core inodes, the superblock and the history. A `FilePass` is what one process has of it. Its rule, `Holds`
 //!   of the specs, says that the history leads to a file system each of whose inodes is at home or locked by one pass, and stands
 //!   for its node.
+//! - `look` looks a name up in a directory, and takes a reference to the child where the table of in-core inodes has a place for it.
 //! - `stat` answers what an inode says. It locks the inode, sleeping while another pass has it, and reads its line where it is not
 //!   in core.
-//! - `inodes_stand_for_nodes`, `free_blocks_mount`, `free_blocks_alone` and `free_inodes_mount` give, from a sound image, what each
-//!   used inode's lines stand for, and all that a core asks of the lines that no inode owns.
+//! - `inodes_stand_for_nodes`, `inode_lines_alone`, `free_blocks_mount`, `free_blocks_alone` and `free_inodes_mount` give, from a
+//!   sound image, what each used inode's lines stand for, and all that a core asks of the lines that no inode owns.
 //! - `closed_is_sound` gives a sound image, whose tree is the nodes, from the lines of a file system that was closed. Each other
 //!   law is a part of it, from what alone it needs.
 //! - `flushed_is_sized`, `flushed_is_chained` and `flushed_is_cached` give the conditions 1 to 3 and 10 to 12 from the lines of a
@@ -25,10 +26,15 @@ mod converse;
 mod event;
 mod files;
 mod from_image;
+mod history;
 mod in_core;
 mod lock;
+mod look;
 mod node_blocks;
+mod refer;
+mod references;
 mod rule;
+mod search;
 mod stakes;
 mod stat;
 mod state;
@@ -41,7 +47,8 @@ pub use converse::{
 };
 pub use files::{FilePass, Files};
 pub use from_image::{
-    free_blocks_alone, free_blocks_mount, free_inodes_mount, inodes_stand_for_nodes,
+    free_blocks_alone, free_blocks_mount, free_inodes_mount, inode_lines_alone,
+    inodes_stand_for_nodes,
 };
 pub use node_blocks::{need_is_added, tree_is_used};
 pub use std::alloc::AllocError as NoMemory;

@@ -39,7 +39,7 @@ pub struct Turn<R: TurnRule> {
 }
 
 impl<R: TurnRule> Turn<R> {
-    ghost use Rattle.std.specs.Prelude.{ℕ, ◌≤◌, ◌%◌, ◌^◌, [], ◌∷◌, IfErr, OnOk, OnErr};
+    ghost use Rattle.std.specs.Prelude.{ℕ, ◌≤◌, ◌%◌, ◌^◌, [], ◌∷◌, IfErr, IsOk, OnOk, OnErr};
     ghost use Rattle.sv_turn.specs.Passes.{pass_view, IsOut, HasDrawn, HasEntered, MayLeave, IsSamePass, IsPassOf, first_view, turn_events};
     ghost use Rattle.sv_turn.specs.Steps.{IsKept};
 
@@ -195,7 +195,7 @@ impl<R: TurnRule> Turn<R> {
         self.events[event as usize].notify_all();
     }
 
-    /// Cuts what the pass stands for in two. The new pass has the right part.
+    /// Cuts what the pass stands for in two. The new pass has the right part. It takes no memory, so it is never refused.
     pub fn split<C: CutView<R::View>>(&self, pass: &mut Pass<R>) -> Result<Pass<R>, NoMemory>
         requires own { IsPassOf self.now pass.old }
         requires away { IsOut pass.old }
@@ -204,6 +204,7 @@ impl<R: TurnRule> Turn<R> {
         ensures left { OnOk result (pass_view pass.new ≡ C.left (pass_view pass.old)) }
         ensures right { IfOk result (λ other. IsPassOf self.now other × IsOut other × (pass_view other ≡ C.right (pass_view pass.old))) }
         ensures err { OnErr result (pass_view pass.new ≡ pass_view pass.old) }
+        ensures always { IsOk result }
     {
         let seat = self.table.shared.split_seat::<Cut<C>>(&mut pass.seat);
         Ok(Pass { seat })

@@ -4,7 +4,7 @@ use Rattle.sv_files.proofs.answer.answer.Given as goal
 
 abbrev pub ghosts-leave_answered : goal.ghosts-leave_answered
 ghosts-leave_answered g a = record {
-  next = λ v. ended_view a.state.history.items (home_faults (seen_by g.S.Stake.held g.S.Stake.lent g.S.Stake.origin g.S.Stake.faults
+  next = λ v. ended_view a.state.history.entries.items (home_faults (seen_by g.S.Stake.held g.S.Stake.lent g.S.Stake.origin g.S.Stake.faults
       g.S.Stake.forced) a.state.stakes.items a.number) v;
 }
 

@@ -19,7 +19,7 @@ leave_locked-requires-clause-rule g c κs within = (
       (pass_view c.loop.pass) ∷ others)) (sym c.kept_in-core.ensures)
       (locks-one (seen_by g.S.Stake.held g.S.Stake.lent g.S.Stake.origin g.S.Stake.faults g.S.Stake.forced) c.loop.state
       (record c.loop.state { stakes = c.take_stake.new.stakes }) (pass_view c.loop.pass) others c.args.number
-      c.in-Some-take_stake.stake (sym c.in-Some-take_stake.ensures.taken) c.take_stake.ensures.away refl refl refl
+      c.in-Some-take_stake.stake (sym c.in-Some-take_stake.ensures.taken) c.take_stake.ensures.away refl refl refl refl
       (subst (λ z. InRange z (g.S.Stake.held c.in-Some-take_stake.stake)) c.geometry-sizes.ensures.value c.geometry-sizes.ensures.range) h),
 )
 
@@ -44,5 +44,5 @@ sleep_on-state-requires-clause-rule g c = (
   c.loop.invariant.3,
   λ others h.
       same-stakes _ c.loop.state (record c.loop.state { stakes = c.take_stake.new.stakes }) (pass_view c.loop.pass ∷ others)
-      c.in-None-take_stake.ensures.none refl refl refl h,
+      c.in-None-take_stake.ensures.none refl refl refl refl h,
 )

@@ -1,0 +1,43 @@
+// How often each inode is referred to, and how many are.
+ghost use Rattle.std.specs.Prelude.{◌≡◌, ◌<◌, ◌+◌, ◌^◌, ◌==◌, ◌&&◌, true, length, set, slice_index};
+ghost use Rattle.sv_plain.specs.Totals.{one_if};
+
+// The shares of each inode by its number, of how many inodes there are shares, and how many places the table has: each inode that is
+// referred to takes one.
+pub struct References {
+    pub(crate) counts: Vec<u32>,
+    pub(crate) taken: u32,
+    pub(crate) places: u32,
+}
+
+impl References {
+    // The table has no place for the inode: all are taken, and none by this one.
+    pub fn is_full_for(&self, ino: u16) -> bool
+        requires inside { ino < length self.now.counts.items }
+        ensures { result ≡ ((slice_index self.now.counts.items ino == 0) && (self.now.taken == self.now.places)) }
+    {
+        self.counts[usize::from(ino)] == 0 && self.taken == self.places
+    }
+
+    // A share more of the inode is a number that can be told.
+    pub fn can_count(&self, ino: u16) -> bool
+        requires inside { ino < length self.now.counts.items }
+        ensures { result ≡ true → (slice_index self.now.counts.items ino + 1 < 2 ^ 32) × (self.now.taken + 1 < 2 ^ 32) }
+    {
+        self.counts[usize::from(ino)] < u32::MAX && self.taken < u32::MAX
+    }
+
+    // One share more of an inode, which takes a place where it is the first.
+    pub fn refer(&mut self, ino: u16)
+        requires inside { ino < length self.old.counts.items }
+        requires fits { (slice_index self.old.counts.items ino + 1 < 2 ^ 32) × (self.old.taken + 1 < 2 ^ 32) }
+        ensures counts { self.new.counts.items ≡ set self.old.counts.items ino (slice_index self.old.counts.items ino + 1) }
+        ensures taken { self.new.taken ≡ self.old.taken + one_if (slice_index self.old.counts.items ino == 0) }
+        ensures places { self.new.places ≡ self.old.places }
+    {
+        let at = usize::from(ino);
+        let had = self.counts[at];
+        self.counts[at] = had + 1;
+        self.taken += u32::from(had == 0);
+    }
+}
