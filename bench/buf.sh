@@ -60,6 +60,7 @@ ANTT
 } >proofs/Sharing.antt
 answers open ''
 answers end ''
+answers stop_all ''
 sed -i -e 's/ g c =$/ c =/' proofs/end/Answers.antt
 answers cut threads/
 answers work threads/
@@ -281,8 +282,15 @@ fn work<R: Threads + Wait + Sync>(
     let stake = cache.stake(first);
     let (stake, sum) = share(rt, alloc, stake, 0, threads, load);
     let mut first = stake.give_up();
-    cache.stop(rt, &mut first);
+    stop_all(rt, cache, &mut first);
     (first, sum)
+}
+
+fn stop_all<R: Wait>(rt: &R, cache: &Cache<SlowDisk>, first: &mut CachePass<SlowDisk>)
+    requires all { HasAll cache.now.turn first.old }
+    ensures all { HasAll cache.now.turn first.new }
+{
+    cache.stop(rt, first);
 }
 
 fn run<R: Threads + Wait + Sync>(
@@ -348,8 +356,6 @@ fn end(
     requires room { vec_capacity passes ≡ 2 }
     requires all { HasAll cache.turn first }
     requires worker { IsWorkers cache.turn worker }
-    requires sizes { (first_view cache.turn).opening.sizes ≡ record { block_size = 1024; blocks = 32; first_data = 3 } }
-    ensures { length result.0.inner.content ≡ 32768 }
 {
     passes.push_reserved(first);
     passes.push_reserved(worker);
