@@ -9,8 +9,8 @@ use Rattle.sv_form.specs.declared.geometry.Geometry.{Geometry}
 use Rattle.sv_form.specs.declared.place.Place.{Place}
 use Rattle.sv_form.specs.declared.owners.LineRange.{LineRange}
 use Rattle.sv_form.specs.declared.superblock.Super.{Super}
-use Rattle.sv_store.specs.Held.{Apart, Both, Held, Lent, Origin, SameLines, chosen, covers, in_ranges, line_of, nothing_lent, of_content, rest}
-use Rattle.sv_store.specs.Calls.{CanPart, Parts}
+use Rattle.sv_store.specs.Held.{Apart, Both, Held, HoldsBlock, Lent, Origin, SameLines, chosen, covers, in_ranges, line_of, nothing_lent, of_content, rest}
+use Rattle.sv_store.specs.Calls.{CanGet, CanPart, Parts}
 use Rattle.sv_store.proofs.Holding.{Apart-Parts, CanPart-range, IsSome-given, IsSome-kept, SameLines-eq, covers-means, is_some-Both, none_from}
 use Rattle.sv_super.specs.Calls.{CanMount, CanMountInodes, head_of, is_free, owned_lines}
 use Rattle.sv_super.specs.Core.{Core, HoldsFirst, HoldsOnly, HoldsSuper, NamesSizes, alone, left_of, less, line_alone}
@@ -92,6 +92,13 @@ source-less {o} {o2} {o'} {o2'} {h} {h2} {k} {k2} {part} {m} {m2} b is least lin
     by c l some true q = ap (λ x. x c l) left ∙ none (c == b) (k c l) (is.apart.at c l q)
     by c l some false q =
         ap (λ x. x c l) left ∙ ap (λ t. cond t None (k c l)) (part_of c l (sym (ap (λ t. cond t true (is_some (part c l))) q) ∙ some) (c == b) refl)
+
+-- a block of which all lines are held can be read
+pub can-read : {o o' : Origin} {h : Held} {m : Lent} {b : ℕ} {g : Geometry} → IsGeometry g → g ≡ o'.sizes → o' ≡ o → HoldsBlock o h b → m ≡ nothing_lent → CanGet h m b
+can-read {b = b} sizes same home whole none = record {
+  some = (0, whole.at 0 (omega (arith, sizes.block_size, ap (λ q. q.block_size) same, ap (λ q. q.sizes.block_size) home)));
+  away = ap (λ q. q b) none;
+}
 
 pub source-data : {o o' : Origin} {h k : Held} {m : Lent} {n : ℕ} (b : ℕ) → IsSource o h o' k m n → 4 ≤ b → b < 64 → IsDataBlock o.sizes b
 source-data b is least most = record { least = omega (arith, least, ap (λ q. q.first_data) is.sizes); most = omega (arith, most, ap (λ q. q.blocks) is.sizes) }

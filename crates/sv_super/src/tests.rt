@@ -3,6 +3,7 @@ ghost use Rattle.std.specs.Prelude.{◌≡◌, ◌≢◌, ◌≤◌, ◌<◌, �
 ghost use Rattle.std.specs.Prelude.{length, replicate, slice_index, true};
 ghost use Rattle.std.specs.List.{All};
 ghost use Rattle.sv_form.specs.Geometry.{IsDataBlock};
+ghost use Rattle.sv_store.specs.Calls.{CanGet};
 ghost use Rattle.sv_store.specs.Held.{Apart, HoldsBlock, nothing_lent};
 ghost use Rattle.sv_super.specs.Calls.{head_of};
 ghost use Rattle.sv_super.specs.Core.{HoldsSuper, left_of};
@@ -195,16 +196,16 @@ fn flushed<R: Wait, S: Stake + Drop>(
 }
 
 // Bytes of a block from a place on.
-fn bytes_at(bytes: &[u8], at: usize) -> [u8; 24] {
-    let mut row = [0u8; 24];
+fn bytes_at<const N: usize>(bytes: &[u8], at: usize) -> [u8; N] {
+    let mut row = [0u8; N];
     for (k, to) in row.iter_mut().enumerate() {
         *to = bytes.get(at.saturating_add(k)).copied().unwrap_or(0);
     }
     row
 }
 
-// The begin of the superblock that a stake holds.
-fn super_begin<R: Wait, S: Stake>(rt: &R, stake: &mut S) -> Result<[u8; 24], Refusal>
+// The superblock that a stake holds, up to the ten free blocks.
+fn super_begin<R: Wait, S: Stake>(rt: &R, stake: &mut S) -> Result<[u8; 56], Refusal>
     requires lines { HoldsSuper (S.origin stake.old) (S.held stake.old) }
     requires lent { S.lent stake.old ≡ nothing_lent }
 {
@@ -227,6 +228,35 @@ fn free_and_flush<R: Wait, S: Stake>(
 {
     free_all(rt, alloc, core, source)?;
     core.flush(rt)
+}
+
+// The bytes of a list in a block that a stake holds.
+fn list_bytes<R: Wait, S: Stake>(rt: &R, stake: &mut S, b: u32) -> Result<[u8; 204], Refusal>
+    requires { CanGet (S.held stake.old) (S.lent stake.old) b }
+{
+    let buf = stake.bread(rt, b)?;
+    let row = bytes_at(buf.bytes(), 0);
+    stake.brelse(rt, buf);
+    Ok(row)
+}
+
+// All blocks are freed, and nine are taken: the next one, which was freed into a full list, and the list in it.
+fn read_back<R: Wait, S: Stake + Drop>(
+    rt: &R,
+    alloc: Global,
+    core: &mut SuperCore<S>,
+    source: &mut S,
+) -> Result<(u32, [u8; 204]), Refusal>
+    requires source { IsSource (S.origin core.old.stake) (S.held core.old.stake)
+        (S.origin source.old) (S.held source.old) (S.lent source.old) 64 }
+{
+    free_all(rt, alloc, core, source)?;
+    let _nine = take(rt, alloc, core, 9)?;
+    let (block, part) = core.alloc(rt, alloc)?;
+    let mut part = part;
+    let _sizes = part.geometry();
+    let bytes = list_bytes(rt, &mut part, block)?;
+    Ok((block, bytes))
 }
 
 // Hands back all lines; they have those of the superblock, and nothing is lent.
@@ -364,7 +394,7 @@ fn run_flushed<R: Wait>(
     }
 }
 
-fn run_written<R: Wait>(rt: &R, alloc: Global) -> Result<[u8; 24], Refusal> {
+fn run_written<R: Wait>(rt: &R, alloc: Global) -> Result<[u8; 56], Refusal> {
     let mut source = whole_stake(alloc, 0)?;
     match empty_core(alloc, &mut source)? {
         Ok(mut core) => {
@@ -373,6 +403,18 @@ fn run_written<R: Wait>(rt: &R, alloc: Global) -> Result<[u8; 24], Refusal> {
             let row = super_begin(rt, &mut stake);
             done?;
             row
+        }
+        Err(_) => Err(Refusal::NoMemory),
+    }
+}
+
+fn run_read_back<R: Wait>(rt: &R, alloc: Global) -> Result<(u32, [u8; 204]), Refusal> {
+    let mut source = whole_stake(alloc, 0)?;
+    match empty_core(alloc, &mut source)? {
+        Ok(mut core) => {
+            let rows = read_back(rt, alloc, &mut core, &mut source);
+            let _stake = core.give_up();
+            rows
         }
         Err(_) => Err(Refusal::NoMemory),
     }
@@ -390,18 +432,37 @@ fn run_inode(alloc: Global) -> Result<(u32, Option<u16>, Option<u16>), Refusal> 
     }
 }
 
+// Fifty numbers: no link, and 63 down to 15.
+const FULL: [u8; 204] = [
+    50, 0, 0, 0, 0, 0, 0, 0, 63, 0, 0, 0, 62, 0, 0, 0, 61, 0, 0, 0, 60, 0, 0, 0, 59, 0, 0, 0, 58,
+    0, 0, 0, 57, 0, 0, 0, 56, 0, 0, 0, 55, 0, 0, 0, 54, 0, 0, 0, 53, 0, 0, 0, 52, 0, 0, 0, 51, 0,
+    0, 0, 50, 0, 0, 0, 49, 0, 0, 0, 48, 0, 0, 0, 47, 0, 0, 0, 46, 0, 0, 0, 45, 0, 0, 0, 44, 0, 0,
+    0, 43, 0, 0, 0, 42, 0, 0, 0, 41, 0, 0, 0, 40, 0, 0, 0, 39, 0, 0, 0, 38, 0, 0, 0, 37, 0, 0, 0,
+    36, 0, 0, 0, 35, 0, 0, 0, 34, 0, 0, 0, 33, 0, 0, 0, 32, 0, 0, 0, 31, 0, 0, 0, 30, 0, 0, 0, 29,
+    0, 0, 0, 28, 0, 0, 0, 27, 0, 0, 0, 26, 0, 0, 0, 25, 0, 0, 0, 24, 0, 0, 0, 23, 0, 0, 0, 22, 0,
+    0, 0, 21, 0, 0, 0, 20, 0, 0, 0, 19, 0, 0, 0, 18, 0, 0, 0, 17, 0, 0, 0, 16, 0, 0, 0, 15, 0, 0,
+    0,
+];
+
+#[test]
+fn a_block_freed_into_a_full_list_has_the_list(rt: HostRuntime) -> Result<(), Fail> {
+    assert_eq!(rt; run_read_back(&rt, rt.alloc()), Ok((14, FULL)));
+    Ok(())
+}
+
 #[test]
 fn an_inode_that_was_freed_is_handed_out(rt: HostRuntime) -> Result<(), Fail> {
     assert_eq!(rt; run_inode(rt.alloc()), Ok((1, Some(3), None)));
     Ok(())
 }
 
-// The magic number, block type 2, the first data block 4, 64 blocks, ten free blocks of which the first two are 14 and 13, and no
-// cached inode.
+// The magic number, block type 2, the first data block 4, 64 blocks, ten free blocks, which are 14 down to 5, and no cached inode.
 #[test]
 fn a_flush_spells_the_superblock(rt: HostRuntime) -> Result<(), Fail> {
     let spelled = [
-        0x53, 0x56, 0x35, 0x46, 2, 0, 4, 0, 64, 0, 0, 0, 10, 0, 0, 0, 14, 0, 0, 0, 13, 0, 0, 0,
+        0x53, 0x56, 0x35, 0x46, 2, 0, 4, 0, 64, 0, 0, 0, 10, 0, 0, 0, 14, 0, 0, 0, 13, 0, 0, 0, 12,
+        0, 0, 0, 11, 0, 0, 0, 10, 0, 0, 0, 9, 0, 0, 0, 8, 0, 0, 0, 7, 0, 0, 0, 6, 0, 0, 0, 5, 0, 0,
+        0,
     ];
     assert_eq!(rt; run_written(&rt, rt.alloc()), Ok(spelled));
     Ok(())
