@@ -1,5 +1,5 @@
 -- Files that writes are tried on.
-use Rattle.std.proofs.Common.{◌≡◌, ◌≤◌, ◌<◌, ◌*◌, ◌/◌, ℕ, Bool, true, false, List, length, IsSome, nat_lt, refl, sym}
+use Rattle.std.proofs.Common.{◌≡◌, ◌≤◌, ◌<◌, ◌+◌, ◌*◌, ◌/◌, ℕ, Bool, true, false, List, length, IsSome, nat_lt, refl, sym}
 use Rattle.std.proofs.Common.{ap, ◌∙◌, subst, arith}
 use Rattle.std.specs.FinMap as fmap
 use Rattle.std.specs.List.{range_with_len}
@@ -9,7 +9,7 @@ use Rattle.std.proofs.lemmas.List.Sums.{count_by-le-length, sum_by-le}
 use Rattle.sv_form.specs.Geometry.{IsNumber, inode_place}
 use Rattle.sv_form.specs.Node.{Node}
 use Rattle.sv_form.specs.NodeChanges.{touched}
-use Rattle.sv_form.specs.PagePath.{block_numbers}
+use Rattle.sv_form.specs.PagePath.{block_numbers, greatest_size}
 use Rattle.sv_form.specs.declared.geometry.Geometry.{Geometry}
 use Rattle.sv_form.specs.declared.inode.InodeBody.{InodeBody}
 use Rattle.sv_form.specs.declared.page_path.PagePath.{PagePath}
@@ -69,6 +69,33 @@ twelve-pages g h a count e low =
     few true q = omega (arith, touched-length 1024 0 count (some count q), low)
     few false q = (let nothing : length (touched 1024 0 count) ≡ 0 = ap (λ z. length (touched 1024 0 z)) (none count q) in omega
         (arith, nothing))
+
+-- bytes anywhere in twelve pages need no more
+pub twelve-pages-from : (g : Geometry) (h : Held) (a : List ℕ) (from count : ℕ) → g ≡ sample_sizes → from + count ≤ 12288
+    → write_need g h a from count ≤ 48
+twelve-pages-from g h a from count e low =
+    omega (
+      arith,
+      need-most g h a (from / g.block_size) (length (touched g.block_size from count)),
+      ap
+          (λ q. length (touched q.block_size from count)) e,
+      few (nat_lt 0 count) refl,
+    )
+  where
+    some : (n : ℕ) → nat_lt 0 n ≡ true → 0 < n
+    some n q = grind (nat_tests, arith)
+
+    none : (n : ℕ) → nat_lt 0 n ≡ false → n ≡ 0
+    none n q = grind (nat_tests, arith)
+
+    few : (t : Bool) → nat_lt 0 count ≡ t → length (touched 1024 from count) ≤ 12
+    few true q = omega (arith, touched-length 1024 from count (some count q), low)
+    few false q = (let nothing : length (touched 1024 from count) ≡ 0 = ap (λ z. length (touched 1024 from z)) (none count q) in omega
+        (arith, nothing))
+
+-- the size of a file of twelve pages is one that a file can have
+pub twelve-fit : {g : Geometry} {size : ℕ} → g ≡ sample_sizes → size ≤ 12288 → size ≤ greatest_size g
+twelve-fit {g} {size} e low = let P : Geometry → Type 0 = λ q. size ≤ greatest_size q in subst P (sym e) (omega (arith, low))
 
 -- an entry needs at most eight blocks, wherever it stands
 pub entry-few : (g : Geometry) (h : Held) (a : List ℕ) (place : ℕ) → g ≡ sample_sizes → write_need g h a (16 * place) 16 ≤ 48

@@ -20,6 +20,8 @@ mod names;
 #[cfg(test)]
 mod names_tests;
 mod range;
+#[cfg(test)]
+mod read_back_tests;
 mod stop;
 mod supplies;
 #[cfg(test)]

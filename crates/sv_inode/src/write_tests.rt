@@ -13,7 +13,7 @@ use sv_store::{Refusal, Stake};
 use sv_super::SuperCore;
 
 // A file without bytes.
-const FILE: InodeBody = InodeBody {
+pub(crate) const FILE: InodeBody = InodeBody {
     kind: Kind::File,
     mode: 0o644,
     links: 1,
