@@ -166,6 +166,37 @@ fn filled(hello: Bytes) -> [Step; 5] {
     ]
 }
 
+// Steps over the open file that met a failing device, and what stands in it then.
+fn file_faults() -> [Step; 5] {
+    let status = Reply::Status {
+        kind: Kind::File,
+        mode: 0o644,
+        links: 1,
+        size: 6,
+    };
+    let read = Op::Read { file: 0, count: 1 };
+    [
+        (Op::AddLink { ino: 5 }, Reply::Fault),
+        (Op::Trunc { ino: 5 }, Reply::Fault),
+        (Op::Stat { ino: 5 }, Reply::Fault),
+        (read, Reply::Fault),
+        (Op::Stat { ino: 5 }, status),
+    ]
+}
+
+// A further name of the file, which a failing device keeps from being entered.
+fn enter_faults(b: Name) -> [Step; 6] {
+    let need = Need::Enter { dir: 2, name: b };
+    [
+        (Op::AddLink { ino: 5 }, Reply::Raised),
+        (promise(need), Reply::Granted(0)),
+        (enter(2, b, 5), Reply::Fault),
+        (Op::Forgo, Reply::Done),
+        (Op::SubLink { ino: 5 }, Reply::Lowered),
+        (Op::Look { dir: 2, name: b }, Reply::NotFound),
+    ]
+}
+
 // The bytes are taken away, and the file goes with its descriptor.
 fn emptied(a: Name) -> [Step; 7] {
     let status = Reply::Status {
@@ -254,6 +285,8 @@ fn files_taken(fs: &mut Fs, alloc: Global) -> Result<(), Illegal>
     take(fs, alloc, opened(a))?;
     let hello = bytes(alloc, b"hello\n")?;
     take(fs, alloc, filled(hello))?;
+    take(fs, alloc, file_faults())?;
+    take(fs, alloc, enter_faults(b))?;
     take(fs, alloc, emptied(a))?;
     take(fs, alloc, faults(a))?;
     take(fs, alloc, left_behind(a, b))?;
