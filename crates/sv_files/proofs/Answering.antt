@@ -14,7 +14,7 @@ use Rattle.sv_files.specs.declared.state.State.{State}
 use Rattle.sv_files.specs.View.{View, Mount, Proc, Lock, Seen, of_one, lock_seen, times, all_procs, all_locks}
 use Rattle.sv_files.specs.FileRule.{Counts, Guarded, Holds, IsNodeOf, Parts, at_home, core_of, guarded, home_at, is_faulty}
 use Rattle.sv_files.specs.Adding.{HasCauseIn, HasOneLock, IsEntryOf, IsStill, KeepsAll, Sees, answered, answered_view, ended_view, failed}
-use Rattle.sv_files.specs.Adding.{failed_view, home_faults, references_after, rise}
+use Rattle.sv_files.specs.Adding.{failed_view, home_faults, rise}
 use Rattle.sv_files.proofs.HomeStakes.{home-set}
 use Rattle.sv_files.proofs.Moves.{Moved, adds, away-home, inside-home, unlocks}
 

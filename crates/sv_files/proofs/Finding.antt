@@ -1,7 +1,7 @@
 -- A Look that found a child leads to a file system with one reference more, or, where the table has no place, to the same.
 use Rattle.std.proofs.Common.{◌≡◌, ◌≢◌, ◌<◌, ◌≤◌, ◌+◌, ◌==◌, ◌&&◌, not, ℕ, Bool, true, false, cond, List, [], ◌∷◌, ◌++◌, length, set}
-use Rattle.std.proofs.Common.{Option, Some, None, IsSome, slice_index, refl, sym, ap, subst, ◌∙◌, arith}
-use Rattle.std.proofs.lemmas.Bool.{cases_eq, eq-eqb, eqb-true}
+use Rattle.std.proofs.Common.{Some, slice_index, refl, sym, ap, subst, ◌∙◌, arith}
+use Rattle.std.proofs.lemmas.Bool.{cases_eq, eq-eqb}
 use Rattle.std.proofs.lemmas.Bool.Decides.{nat_tests}
 use Rattle.std.specs.FinMap as map
 use Rattle.std.specs.FinMap.{FinMap}
@@ -13,7 +13,7 @@ use Rattle.sv_plain.specs.declared.history.entry.Entry.{Entry}
 use Rattle.sv_plain.specs.declared.history.op.Op.TheVariants.{Look}
 use Rattle.sv_plain.specs.Change.{one_more, with_reference}
 use Rattle.sv_plain.specs.Fs.{Fs, holders, is_full_for, is_referenced, places_taken}
-use Rattle.sv_plain.specs.Names.{child, has_reference, is_open_to_names, references_of, some_and}
+use Rattle.sv_plain.specs.Names.{references_of}
 use Rattle.sv_plain.specs.Shares.{shares_of}
 use Rattle.sv_plain.specs.Step.{Step}
 use Rattle.sv_plain.specs.Totals.{at_or_0, one_if}
@@ -39,12 +39,12 @@ use Rattle.sv_files.proofs.TableSet.{index-other, index-set, length-table}
 abbrev References' : Type 0
 References' = FinMap pair_cmp ℕ
 
-got-same : (m : References') (k : ℕ × ℕ) (v : ℕ) → map.get (map.insert m k v) k ≡ Some v
+pub got-same : (m : References') (k : ℕ × ℕ) (v : ℕ) → map.get (map.insert m k v) k ≡ Some v
 got-same m k v =
     map.get-insert pair_cmp_total m k v k
     ∙ ap (λ b. cond b (Some v) (map.get m k)) (ap is_eq (tied_itself pair_cmp_total k))
 
-got-apart : (m : References') (k q : ℕ × ℕ) (v : ℕ) → q ≢ k → map.get (map.insert m k v) q ≡ map.get m q
+pub got-apart : (m : References') (k q : ℕ × ℕ) (v : ℕ) → q ≢ k → map.get (map.insert m k v) q ≡ map.get m q
 got-apart m k q v apart =
     map.get-insert pair_cmp_total m k v q
     ∙ elim (eq_by_cmp pair_cmp q k) as (λ b. eq_by_cmp pair_cmp q k ≡ b → cond b (Some v) (map.get m q) ≡ map.get m q) [
@@ -79,7 +79,7 @@ refers-more fs p c references same i = elim (cases_eq i c) [
 yes-zero : (n : ℕ) → n ≡ 0 → (n == 0) ≡ true
 yes-zero n e = grind (arith, nat_tests)
 
-no-zero : (n : ℕ) → n ≢ 0 → (n == 0) ≡ false
+pub no-zero : (n : ℕ) → n ≢ 0 → (n == 0) ≡ false
 no-zero n e = grind (arith, nat_tests)
 
 zero-same : (a b : ℕ) → (a ≡ 0 → b ≡ 0) → (b ≡ 0 → a ≡ 0) → (a == 0) ≡ (b == 0)

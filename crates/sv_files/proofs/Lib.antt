@@ -23,12 +23,15 @@ mod HeldPages
 mod HeldTree
 mod Hits
 mod HomeStakes
+mod HomeTotals
 mod InodeLines
 mod InodeStands
 mod JoinedTimes
 mod LineRead
 mod Locking
 mod LookLegal
+mod MountedParts
+mod MountHolds
 mod Moves
 mod NodePages
 mod NotedLines

@@ -1,8 +1,6 @@
 -- A pass leaves with an inode locked.
 use Rattle.std.proofs.Common.{◌≡◌, ◌∷◌, ℕ, List, Some, None, set, refl, sym, ap, subst, arith}
 use Rattle.sv_store.specs.Held.{InRange, nothing_lent}
-use Rattle.std.specs.Prelude.{nat_eq}
-use Rattle.indexmap.specs.IndexMap.{get}
 use Rattle.sv_files.specs.declared.state.State.{State}
 use Rattle.sv_files.specs.View.{View, Seen, lock_of, all_procs, all_locks}
 use Rattle.sv_files.specs.FileRule.{Holds, Parts, core_of, guarded, home_at}

@@ -1,6 +1,6 @@
 -- What a search of a locked directory told makes a legal Look, whatever file system the pass's view allows.
-use Rattle.std.proofs.Common.{◌≡◌, ◌≢◌, ◌<◌, ◌==◌, ◌&&◌, not, ℕ, Bool, true, false, List, [], ◌∷◌, Option, Some, None}
-use Rattle.std.proofs.Common.{Result, Ok, Err, is_some, option_and_then, refl, sym, ap, subst, ◌∙◌, arith}
+use Rattle.std.proofs.Common.{◌≡◌, ◌≢◌, ◌<◌, ◌==◌, ℕ, true, false, List, [], ◌∷◌, Option, Some}
+use Rattle.std.proofs.Common.{Result, Ok, Err, option_and_then, refl, sym, ap, subst, ◌∙◌, arith}
 use Rattle.std.specs.FinMap as map
 use Rattle.std.proofs.lemmas.Bool.Decides.{nat_tests}
 use Rattle.sv_form.specs.Node.{Node, is_dir}
@@ -8,7 +8,7 @@ use Rattle.sv_form.specs.NodeNames.{child_of}
 use Rattle.sv_store.specs.Held.{Origin}
 use Rattle.sv_plain.specs.declared.history.op.Op.TheVariants.{Look}
 use Rattle.sv_plain.specs.Fs.{Fs}
-use Rattle.sv_plain.specs.Names.{child, has_reference, is_directory, is_missing, is_open_to_names, links_of, references_of, some_and}
+use Rattle.sv_plain.specs.Names.{child, has_reference, is_directory, is_open_to_names, links_of, references_of, some_and}
 use Rattle.sv_plain.specs.Step.{Step, look_replies}
 use Rattle.sv_plain.specs.Totals.{at_or_0}
 use Rattle.sv_files.specs.declared.in_core.InCore.{InCore}
@@ -17,7 +17,7 @@ use Rattle.sv_files.specs.declared.search.Miss.TheVariants as miss
 use Rattle.sv_files.specs.View.{View, Mount, Proc, Seen, lock_of, lock_seen, of_one, times}
 use Rattle.sv_files.specs.FileRule.{StandsAs}
 use Rattle.sv_files.specs.Adding.{KeepsAll, Sees}
-use Rattle.sv_files.specs.Looking.{FindsAll, IsFound, Searches, miss_reply}
+use Rattle.sv_files.specs.Looking.{FindsAll, Searches, miss_reply}
 use Rattle.sv_files.proofs.StatLegal.{refers}
 
 no-zero : (n : ℕ) → n ≢ 0 → (n == 0) ≡ false

@@ -7,8 +7,6 @@ use Rattle.std.proofs.lemmas.List.Sorted.{sum_by-IsPermutation, All-permutation}
 use Rattle.std.proofs.lemmas.List.{length-append, append_assoc}
 use Rattle.std.proofs.lemmas.List.Elements.{All-nil, All-cons, All-head, All-tail}
 use Rattle.sv_turn.specs.Turning.{total}
-use Rattle.sv_plain.specs.declared.history.entry.Entry.{Entry}
-use Rattle.sv_files.specs.declared.in_core.InCore.{InCore}
 use Rattle.sv_files.specs.declared.state.State.{State}
 use Rattle.sv_files.specs.View.{View, Mount, Proc, Lock, Seen, Each, blank, weight, lock_seen, all_procs, all_locks}
 use Rattle.sv_files.specs.FileRule.{Guarded, IsAgreed, IsCut, IsLocked, IsMountOf, Holds, Parts}

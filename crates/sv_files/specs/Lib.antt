@@ -1,4 +1,5 @@
 pub mod Adding
+pub mod Beginning
 pub mod Calls
 pub mod ConverseChain
 pub mod ConverseInodes
@@ -10,6 +11,7 @@ pub mod FileRule
 pub mod FromImage
 pub mod Laws
 pub mod Looking
+pub mod Mounting
 pub mod NodeBlocks
 pub mod RoundTrip
 pub mod View

@@ -1,9 +1,8 @@
-use Rattle.std.proofs.Common.{◌≡◌, ◌∙◌, Err, Ok, ℕ, Result, sym, subst}
+use Rattle.std.proofs.Common.{◌∙◌, sym, subst}
 use Rattle.sv_form.specs.Node.{Node}
 use Rattle.sv_store.specs.Held.{Origin}
 use Rattle.sv_turn.specs.Passes.{pass_view}
 use Rattle.sv_plain.specs.declared.history.op.Op.TheVariants.{Look}
-use Rattle.sv_files.specs.declared.search.Miss.{Miss}
 use Rattle.sv_files.specs.View.{seen_by}
 use Rattle.sv_files.specs.FileRule.{StandsAs}
 use Rattle.sv_files.specs.Adding.{KeepsAll}

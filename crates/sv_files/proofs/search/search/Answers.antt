@@ -1,10 +1,8 @@
-use Rattle.std.proofs.Common.{IfOk, ◌≡◌, ◌∙◌, sym, ap, subst}
-use Rattle.sv_form.specs.Node.{Node}
+use Rattle.std.proofs.Common.{IfOk, ◌≡◌, ◌∙◌, sym, subst}
 use Rattle.sv_form.specs.NodeNames.{child_of}
 use Rattle.sv_store.specs.Held.{Origin}
 use Rattle.sv_inode.specs.StandsFor.{StandsFor}
-use Rattle.sv_files.specs.View.{Seen, seen_by}
-use Rattle.sv_files.specs.FileRule.{StandsAs}
+use Rattle.sv_files.specs.View.{seen_by}
 use Rattle.sv_files.specs.Looking.{Searches}
 use Rattle.sv_files.proofs.Searched.{can-search, closed-searches, open-searches}
 use Rattle.sv_files.proofs.search.search.Goals as goal
