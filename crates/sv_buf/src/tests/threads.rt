@@ -1,5 +1,5 @@
 //! Sixteen threads over a few buffers: each has lines of its own, in ten blocks that are common to all. The seed of each random run
-//! stands in its test.
+//! stands in its test, and is told where the run fails.
 ghost use Rattle.std.specs.Prelude.{◌≡◌, ◌+◌, ◌-◌, ◌*◌, ◌/◌, ◌<◌, [], IfSome, IfNone, IsSome, length};
 ghost use Rattle.std.specs.Thread.{IsSync};
 ghost use Rattle.sv_cache.specs.Cache.{IsBufferCount};
@@ -242,7 +242,8 @@ fn played<R: Threads + Wait + Sync>(
 #[test]
 fn sixteen_threads_share_one_cache(rt: HostRuntime) -> Result<(), TestFail> {
     let load = Load { times: 0, seed: 0 };
-    assert_eq!(rt; played(&rt, rt.alloc(), 4, load)?, (0, true, true));
+    let seed = load.seed;
+    assert_eq!(rt; (seed, played(&rt, rt.alloc(), 4, load)?), (seed, (0, true, true)));
     Ok(())
 }
 
@@ -252,7 +253,8 @@ fn sixteen_threads_over_four_buffers(rt: HostRuntime) -> Result<(), TestFail> {
         times: 1000,
         seed: 20261202,
     };
-    assert_eq!(rt; played(&rt, rt.alloc(), 4, load)?, (0, true, true));
+    let seed = load.seed;
+    assert_eq!(rt; (seed, played(&rt, rt.alloc(), 4, load)?), (seed, (0, true, true)));
     Ok(())
 }
 
@@ -262,7 +264,8 @@ fn sixteen_threads_over_six_buffers(rt: HostRuntime) -> Result<(), TestFail> {
         times: 2250,
         seed: 20261203,
     };
-    assert_eq!(rt; played(&rt, rt.alloc(), 6, load)?, (0, true, true));
+    let seed = load.seed;
+    assert_eq!(rt; (seed, played(&rt, rt.alloc(), 6, load)?), (seed, (0, true, true)));
     Ok(())
 }
 
@@ -272,6 +275,7 @@ fn sixteen_threads_over_eight_buffers(rt: HostRuntime) -> Result<(), TestFail> {
         times: 3000,
         seed: 20261204,
     };
-    assert_eq!(rt; played(&rt, rt.alloc(), 8, load)?, (0, true, true));
+    let seed = load.seed;
+    assert_eq!(rt; (seed, played(&rt, rt.alloc(), 8, load)?), (seed, (0, true, true)));
     Ok(())
 }
