@@ -1,4 +1,5 @@
 mod Answering
+mod Beginnings
 mod BodyRead
 mod ChainCuts
 mod ConverseChain
@@ -37,6 +38,7 @@ mod NodePages
 mod NotedLines
 mod OwnBlocks
 mod OwnClose
+mod OwnedRanges
 mod PurgedAtRest
 mod RangeTests
 mod RestedNodes

@@ -1,5 +1,5 @@
 -- How processes begin, and what they have of the files then.
-use Rattle.std.specs.Prelude.{◌+◌, ◌==◌, ℕ, zero, suc, List, [], ◌∷◌, if◌then◌else◌}
+use Rattle.std.specs.Prelude.{◌≡◌, ◌+◌, ◌++◌, ◌==◌, ℕ, zero, suc, List, [], ◌∷◌, if◌then◌else◌}
 use Rattle.sv_check.specs.Loaded.{loaded}
 use Rattle.sv_files.specs.View.{View, Mount, Proc, Seen}
 
@@ -26,3 +26,24 @@ mount_of image whole processes places = record {
 -- the view of the one pass that stands for all of them
 abbrev pub first_of : Mount → View
 first_of m = record { mount = m; procs = first_procs 1 m.processes; locks = [] }
+
+-- the first of some processes, and the others
+abbrev pub first_one : List Proc → List Proc
+first_one [] = []
+first_one (p ∷ ps) = p ∷ []
+
+abbrev pub other_ones : List Proc → List Proc
+other_ones [] = []
+other_ones (p ∷ ps) = ps
+
+-- Each element is as `first` says of its process: so many processes from q on, and last process 0.
+abbrev pub AreFirst : {P : Type 0} → (ℕ → P → Type 0) → ℕ → ℕ → List P → Type 0
+AreFirst first q n [] = ⊥
+AreFirst first q zero (p ∷ ps) = first 0 p × (ps ≡ [])
+AreFirst first q (suc n) (p ∷ ps) = first q p × AreFirst first (q + 1) n ps
+
+-- such elements were added at the end
+pub record AreAdded {P : Type 0} (first : ℕ → P → Type 0) (q n : ℕ) (old new : List P) : Type 0 where
+  pub added : List P
+  pub is : new ≡ old ++ added
+  pub are : AreFirst first q n added

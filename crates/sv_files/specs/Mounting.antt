@@ -1,13 +1,14 @@
 -- What a mount begins with: an image that was checked, a stake with each of its lines, and the parts of that stake by their owners. And
 -- what it makes of them: what the rule says of stakes, and what a core asks.
-use Rattle.std.specs.Prelude.{◌≡◌, ◌≤◌, ◌<◌, ◌+◌, ◌==◌, ℕ, false, List, [], IsSome, Option, Some, None, length, replicate, set, ◌*◌, if◌then◌else◌}
+use Rattle.std.specs.Prelude.{◌≡◌, ◌≤◌, ◌<◌, ◌+◌, ◌==◌, ℕ, false, List, [], IsSome, Option, Some, None, length, replicate, set, count_by, true, ◌*◌, if◌then◌else◌}
 use Rattle.sv_form.specs.declared.owners.Mounted.{Mounted}
 use Rattle.sv_form.specs.declared.place.Place.{Place}
 use Rattle.sv_form.specs.Geometry.{IsPlace, inode_count}
 use Rattle.sv_form.specs.Image.{block_of, geometry_of}
 use Rattle.sv_form.specs.OwnerTable.{IsOwnerTable, OwnerTable}
-use Rattle.sv_form.specs.Owners.{owner_of}
-use Rattle.sv_store.specs.Held.{Held, InRange, line_of, nothing_lent}
+use Rattle.sv_form.specs.Owners.{AreLinesOf, owner_of}
+use Rattle.sv_form.specs.declared.owners.LineRange.{LineRange}
+use Rattle.sv_store.specs.Held.{Held, InRange, covers, in_ranges, line_of, nothing_lent}
 use Rattle.sv_super.specs.Calls.{CanMount, CanMountInodes, head_of, is_free}
 use Rattle.sv_super.specs.Core.{HoldsFirst, HoldsOnly, NamesSizes}
 use Rattle.sv_super.specs.Count.{one_if}
@@ -106,3 +107,14 @@ MountedHolds {S} seen = (image : List ℕ) (m : Mounted) (whole : Seen) (g : Gua
     → g.history ≡ [] → g.owed ≡ 2 * n → g.core ≡ (λ _. None)
     → g.counts ≡ set (replicate (inode_count (geometry_of image) + 1) 0) 2 (2 * n) → g.taken ≡ 1 → g.places ≡ places
     → Parts seen (mount_of image whole n places) (begun (loaded image) n places) g (first_procs 1 n) []
+
+-- The ranges in which the lines of inode n are handed out: a place of the image is in one of them exactly where it is the inode's, no other
+-- place is, and none is in two.
+pub record CoversShare (t : OwnerTable) (n : ℕ) (ranges : List LineRange) : Type 0 where
+  pub exactly : (b l : ℕ) → IsPlace t.geometry (record { block = b; line = l })
+      → in_ranges ranges b l ≡ (owner_of t (record { block = b; line = l }) == n)
+  pub inside : (b l : ℕ) → in_ranges ranges b l ≡ true → IsPlace t.geometry (record { block = b; line = l })
+  pub once : (b l : ℕ) → count_by (covers b l) ranges ≤ 1
+
+abbrev pub OwnedRanges : Type 0
+OwnedRanges = (t : OwnerTable) (n : ℕ) (ranges : List LineRange) → IsOwnerTable t → AreLinesOf t n ranges → CoversShare t n ranges

@@ -9,7 +9,8 @@
 //! - `inodes_stand_for_nodes`, `inode_lines_alone`, `free_blocks_mount`, `free_blocks_alone` and `free_inodes_mount` give, from a
 //!   sound image, what each used inode's lines stand for, and all that a core asks of the lines that no inode owns.
 //! - `mounted_parts` says that the lines of a checked image, once they are parted by their owners, are what the rule says of
-//!   stakes; `mounted_holds`, that the rule then holds of all processes as they begin.
+//!   stakes; `mounted_holds`, that the rule then holds of all processes as they begin; `owned_ranges`, that the ranges in which an
+//!   inode's lines are handed out are exactly them.
 //! - `closed_is_sound` gives a sound image, whose tree is the nodes, from the lines of a file system that was closed. Each other
 //!   law is a part of it, from what alone it needs.
 //! - `flushed_is_sized`, `flushed_is_chained` and `flushed_is_cached` give the conditions 1 to 3 and 10 to 12 from the lines of a
@@ -23,6 +24,7 @@
 #![tactic(auto)]
 
 mod answer;
+mod begin;
 mod body;
 mod converse;
 mod event;
@@ -53,6 +55,6 @@ pub use from_image::{
     free_blocks_alone, free_blocks_mount, free_inodes_mount, inode_lines_alone,
     inodes_stand_for_nodes,
 };
-pub use mounting::{mounted_holds, mounted_parts};
+pub use mounting::{mounted_holds, mounted_parts, owned_ranges};
 pub use node_blocks::{need_is_added, tree_is_used};
 pub use std::alloc::AllocError as NoMemory;

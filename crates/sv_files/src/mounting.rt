@@ -1,5 +1,5 @@
 // What a mount makes of a checked image and its lines, without code.
-ghost use Rattle.sv_files.specs.Mounting.{MountedHolds, MountedParts};
+ghost use Rattle.sv_files.specs.Mounting.{MountedHolds, MountedParts, OwnedRanges};
 ghost use Rattle.sv_files.specs.View.{seen_by};
 
 use sv_store::Stake;
@@ -14,4 +14,9 @@ pub fn mounted_parts<S: Stake>()
 /// kept in core, and two shares of the root for each process, the rule of the file turn holds of all processes as they begin.
 pub fn mounted_holds<S: Stake>()
     ensures { MountedHolds (seen_by S.held S.lent S.origin S.faults S.forced) }
+{}
+
+/// The ranges in which the lines of an inode are handed out cover exactly the places that are the inode's, each once.
+pub fn owned_ranges()
+    ensures { OwnedRanges }
 {}

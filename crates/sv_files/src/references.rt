@@ -1,6 +1,12 @@
 // How often each inode is referred to, and how many are.
-ghost use Rattle.std.specs.Prelude.{◌≡◌, ◌<◌, ◌+◌, ◌^◌, ◌==◌, ◌&&◌, true, length, set, slice_index};
+ghost use Rattle.std.specs.Prelude.{◌≡◌, ◌<◌, ◌+◌, ◌^◌, ◌==◌, ◌&&◌, ◌*◌, ◌≤◌, true, IfOk, length, replicate, set, slice_index};
 ghost use Rattle.sv_plain.specs.Totals.{one_if};
+
+use crate::NoMemory;
+use std::alloc::Global;
+
+// The root's inode (Bach, chapter 4.3).
+const ROOT: usize = 2;
 
 // The shares of each inode by its number, of how many inodes there are shares, and how many places the table has: each inode that is
 // referred to takes one.
@@ -11,6 +17,22 @@ pub struct References {
 }
 
 impl References {
+    // Two shares of the root for each of so many processes, and no others, with the numbers of inodes and of places.
+    pub fn new(alloc: Global, inodes: u16, processes: u8, places: u32) -> Result<References, NoMemory>
+        requires root { 2 ≤ inodes }
+        ensures counts { IfOk result (λ r. r.counts.items ≡ set (replicate (inodes + 1) 0) 2 (2 * processes)) }
+        ensures taken { IfOk result (λ r. r.taken ≡ 1) }
+        ensures places { IfOk result (λ r. r.places ≡ places) }
+    {
+        let mut counts = vec![in alloc; 0_u32; usize::from(inodes) + 1]?;
+        counts[ROOT] = 2 * u32::from(processes);
+        Ok(References {
+            counts,
+            taken: 1,
+            places,
+        })
+    }
+
     // The table has no place for the inode: all are taken, and none by this one.
     pub fn is_full_for(&self, ino: u16) -> bool
         requires inside { ino < length self.now.counts.items }
