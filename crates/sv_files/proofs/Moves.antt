@@ -386,8 +386,10 @@ module _ {S : Type 0} where
     homes = subst (λ xs. Homes seen m.origin after.nodes xs q.core ks) (sym stakes)
         (subst (λ f. Homes seen m.origin after.nodes g.stakes f ks) (sym moved.core)
         (subst (λ ns. Homes seen m.origin ns g.stakes g.core ks) (sym moved.nodes) h.homes));
-    agrees = subst (λ es. Agrees m after es (record p { references = references_after e.op e.reply p.references;
-        entries = p.entries ++ e ∷ [] } ∷ ps)) (sym moved.history) (record {
+    agrees = subst (λ es. Agrees m after es (record p {
+      references = references_after e.op e.reply p.references;
+      entries = p.entries ++ e ∷ [];
+    } ∷ ps)) (sym moved.history) (record {
       once = h.agrees.once;
       each = (
         record {

@@ -71,7 +71,7 @@ covers-number g r b l is within =
     ∙ sym (times-range (b * block_lines g + l) (r.block * block_lines g + r.first) r.count)
   where
     apart_less : (x y : ℕ) → x ≢ y → (x < y) ⊎ (y < x)
-    apart_less x y ne = elim (cases_order x y) [ | inl e ↦ absurd (ne e) | inr h ↦ h ]
+    apart_less x y ne = elim (cases_order x y) [ inl e ↦ absurd (ne e) | inr h ↦ h ]
 
     off : (r.block < b) ⊎ (b < r.block) → (nat_le (r.block * block_lines g + r.first) (b * block_lines g + l)
         && nat_lt (b * block_lines g + l) (r.block * block_lines g + r.first + r.count)) ≡ false

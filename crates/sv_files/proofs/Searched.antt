@@ -67,8 +67,7 @@ can-search n core z held origin body some same home stands =
     let here = stands some.origin some.node some.stands in
     let at : origin ≡ some.origin = home ∙ some.stands.origin in
     let size = some.size in
-    let is = here.described.size in
-    (
+    let is = here.described.size in (
       subst (λ h. IsTree origin h body.addresses) (sym same) (subst (λ o. IsTree o z.held body.addresses) (sym at) here.tree),
       subst (λ (o : Origin). body.size ≤ greatest_size o.sizes) (sym at) (omega (arith, size, is)),
     )

@@ -65,15 +65,21 @@ pub stat-legal : (m : Mount) (p : Proc) (v : View) (ino process : ℕ) (core : O
     → IfOk result (λ body. (o : Origin) (node : Node) → StandsAs o ino core z node → StandsFor o z.held body node)
     → KeepsAll v (record { process = process; op = Stat ino; reply = status_of result })
 stat-legal m p v ino process core z (Ok body) is noted mine some described =
-    subst (λ w. KeepsAll w (record { process = process; op = Stat ino; reply = status_of (Ok body) })) (sym is) (record { none = λ rs. refl; steps = λ fs sees.
-    let node = sees.locked.0 in
-    step-ok fs process ino (times ino p.references) node.node body
-    (subst (λ q. references_of fs q ino ≡ times ino p.references) mine (sees.references.0 ino)) some node.known
-    (described z.origin node.node (subst (λ w. StandsAs z.origin ino core w node.node) noted node.stands)).described })
+    subst (λ w. KeepsAll w (record { process = process; op = Stat ino; reply = status_of (Ok body) })) (sym is) (record {
+      none = λ rs. refl;
+      steps = λ fs sees.
+          let node = sees.locked.0 in
+          step-ok fs process ino (times ino p.references) node.node body
+          (subst (λ q. references_of fs q ino ≡ times ino p.references) mine (sees.references.0 ino)) some node.known
+          (described z.origin node.node (subst (λ w. StandsAs z.origin ino core w node.node) noted node.stands)).described;
+    })
 stat-legal m p v ino process core z (Err e) is noted mine some described =
-    subst (λ w. KeepsAll w (record { process = process; op = Stat ino; reply = status_of (Err e) })) (sym is) (record { none = λ rs. refl; steps = λ fs sees.
-    step-err fs process ino (times ino p.references) e
-    (subst (λ q. references_of fs q ino ≡ times ino p.references) mine (sees.references.0 ino)) some })
+    subst (λ w. KeepsAll w (record { process = process; op = Stat ino; reply = status_of (Err e) })) (sym is) (record {
+      none = λ rs. refl;
+      steps = λ fs sees.
+          step-err fs process ino (times ino p.references) e
+          (subst (λ q. references_of fs q ino ≡ times ino p.references) mine (sees.references.0 ino)) some;
+    })
 
 pub locked-one : (m : Mount) (p : Proc) (v w : View) (ino : ℕ) (core : Option InCore) (z : Seen) → v ≡ of_one m p []
     → w ≡ locked_view ino core z v → w ≡ of_one m p (lock_of ino core z ∷ [])

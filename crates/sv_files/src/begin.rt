@@ -11,10 +11,7 @@ use sv_store::Stake;
 use sv_turn::{Pass, Turn};
 
 // Cuts the first process off. The pass that is given keeps it, and the new one stands for the others.
-fn cut_first<S: Stake>(
-    turn: &Turn<FileRule<S>>,
-    pass: &mut Pass<FileRule<S>>,
-) -> Pass<FileRule<S>>
+fn cut_first<S: Stake>(turn: &Turn<FileRule<S>>, pass: &mut Pass<FileRule<S>>) -> Pass<FileRule<S>>
     requires own { IsPassOf turn.now pass.old }
     requires away { IsOut pass.old }
     requires free { (pass_view pass.old).locks ≡ [] }

@@ -81,11 +81,7 @@ impl<S: Stake> Files<S> {
             (record { process = pass.old.process; op = op; reply = reply })) }
         ensures err { OnErr result (AddsNothing (pass_view pass.old.pass) (pass_view pass.new.pass)) }
     {
-        let Op::Look {
-            dir,
-            name,
-        } = op
-        else {
+        let Op::Look { dir, name } = op else {
             unreachable!()
         };
         look_up(rt, &self.turn, &mut pass.pass, pass.process, dir, name)

@@ -43,10 +43,7 @@ pub fn look_up<R: Wait, S: Stake>(
         Err(miss) => {
             let entry = Entry {
                 process,
-                op: Op::Look {
-                    dir,
-                    name,
-                },
+                op: Op::Look { dir, name },
                 reply: miss.reply(),
             };
             answer(rt, turn, pass, locked, entry)?;

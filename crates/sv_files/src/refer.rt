@@ -91,13 +91,16 @@ pub fn answer_found<R: Wait, S: Stake>(
     let full = state.references.is_full_for(child);
     let entry = Entry {
         process,
-        op: Op::Look {
-            dir,
-            name,
-        },
+        op: Op::Look { dir, name },
         reply: reply_found(full, child),
     };
-    match note_found(&mut state.references, &mut state.history, entry, full, child) {
+    match note_found(
+        &mut state.references,
+        &mut state.history,
+        entry,
+        full,
+        child,
+    ) {
         Ok(()) => {
             leave_answered::<Brand, S>(turn, pass, state, number);
             turn.wake(inode_event(number));

@@ -18,7 +18,12 @@ pub struct References {
 
 impl References {
     // Two shares of the root for each of so many processes, and no others, with the numbers of inodes and of places.
-    pub fn new(alloc: Global, inodes: u16, processes: u8, places: u32) -> Result<References, NoMemory>
+    pub fn new(
+        alloc: Global,
+        inodes: u16,
+        processes: u8,
+        places: u32,
+    ) -> Result<References, NoMemory>
         requires root { 2 ≤ inodes }
         ensures counts { IfOk result (λ r. r.counts.items ≡ set (replicate (inodes + 1) 0) 2 (2 * processes)) }
         ensures taken { IfOk result (λ r. r.taken ≡ 1) }

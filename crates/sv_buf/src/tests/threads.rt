@@ -243,7 +243,10 @@ fn played<R: Threads + Wait + Sync>(
 fn sixteen_threads_share_one_cache(rt: HostRuntime) -> Result<(), TestFail> {
     let load = Load { times: 0, seed: 0 };
     let seed = load.seed;
-    assert_eq!(rt; (seed, played(&rt, rt.alloc(), 4, load)?), (seed, (0, true, true)));
+    assert_eq!(rt;
+        (seed, played(&rt, rt.alloc(), 4, load)?),
+        (seed, (0, true, true))
+    );
     Ok(())
 }
 
@@ -254,7 +257,10 @@ fn sixteen_threads_over_four_buffers(rt: HostRuntime) -> Result<(), TestFail> {
         seed: 20261202,
     };
     let seed = load.seed;
-    assert_eq!(rt; (seed, played(&rt, rt.alloc(), 4, load)?), (seed, (0, true, true)));
+    assert_eq!(rt;
+        (seed, played(&rt, rt.alloc(), 4, load)?),
+        (seed, (0, true, true))
+    );
     Ok(())
 }
 
@@ -265,7 +271,10 @@ fn sixteen_threads_over_six_buffers(rt: HostRuntime) -> Result<(), TestFail> {
         seed: 20261203,
     };
     let seed = load.seed;
-    assert_eq!(rt; (seed, played(&rt, rt.alloc(), 6, load)?), (seed, (0, true, true)));
+    assert_eq!(rt;
+        (seed, played(&rt, rt.alloc(), 6, load)?),
+        (seed, (0, true, true))
+    );
     Ok(())
 }
 
@@ -276,6 +285,9 @@ fn sixteen_threads_over_eight_buffers(rt: HostRuntime) -> Result<(), TestFail> {
         seed: 20261204,
     };
     let seed = load.seed;
-    assert_eq!(rt; (seed, played(&rt, rt.alloc(), 8, load)?), (seed, (0, true, true)));
+    assert_eq!(rt;
+        (seed, played(&rt, rt.alloc(), 8, load)?),
+        (seed, (0, true, true))
+    );
     Ok(())
 }

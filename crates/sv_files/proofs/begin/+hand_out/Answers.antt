@@ -13,8 +13,7 @@ pub returns : goal.returns
 returns g t c =
     adds-first (λ q p. IsPassOf c.args.turn.now p.pass × (pass_view p.pass ≡ of_one (pass_view c.args.pass).mount (first_proc q) [])
     × (p.process ≡ q)) c.args.process c.args.left c.args.passes.now.items c.push_reserved-2.new.self.items
-    c.hand_out.new.passes.items _ c.if-left-eq0.false c.push_reserved-2.ensures.items
-    (
+    c.hand_out.new.passes.items _ c.if-left-eq0.false c.push_reserved-2.ensures.items (
       c.cut_first-others.ensures.same.0.0 ∙ c.requires.own,
       view-first (pass_view c.args.pass) _ c.args.process c.args.left c.cut_first-others.ensures.first c.requires.procs c.requires.free
           c.if-left-eq0.false,

@@ -25,21 +25,21 @@ put_stake-requires-clause-away g c =
 pub is_full_for-full-requires : goal.is_full_for-full-requires
 is_full_for-full-requires g c = record {
   inside =
-        found-inside _ c.enter-state.result (pass_view c.enter-state.new.pass) c.enter-state.ensures.holds.0 c.requires.still.0
-        c.args.process c.args.dir c.args.name c.args.child
-        (subst (λ v. HasOneLock v c.requires.still.0) (sym c.enter-state.ensures.same.1) c.requires.still.1)
-        (subst (λ v. FindsAll v c.args.process c.args.dir c.args.name c.args.child) (sym c.enter-state.ensures.same.1) c.requires.finds)
-        c.enter-state.ensures.holds.1;
+      found-inside _ c.enter-state.result (pass_view c.enter-state.new.pass) c.enter-state.ensures.holds.0 c.requires.still.0
+      c.args.process c.args.dir c.args.name c.args.child
+      (subst (λ v. HasOneLock v c.requires.still.0) (sym c.enter-state.ensures.same.1) c.requires.still.1)
+      (subst (λ v. FindsAll v c.args.process c.args.dir c.args.name c.args.child) (sym c.enter-state.ensures.same.1) c.requires.finds)
+      c.enter-state.ensures.holds.1;
 }
 
 pub note_found-requires : goal.note_found-requires
 note_found-requires g c = record {
   inside =
-        found-inside _ c.enter-state.result (pass_view c.enter-state.new.pass) c.enter-state.ensures.holds.0 c.requires.still.0
-        c.args.process c.args.dir c.args.name c.args.child
-        (subst (λ v. HasOneLock v c.requires.still.0) (sym c.enter-state.ensures.same.1) c.requires.still.1)
-        (subst (λ v. FindsAll v c.args.process c.args.dir c.args.name c.args.child) (sym c.enter-state.ensures.same.1) c.requires.finds)
-        c.enter-state.ensures.holds.1;
+      found-inside _ c.enter-state.result (pass_view c.enter-state.new.pass) c.enter-state.ensures.holds.0 c.requires.still.0
+      c.args.process c.args.dir c.args.name c.args.child
+      (subst (λ v. HasOneLock v c.requires.still.0) (sym c.enter-state.ensures.same.1) c.requires.still.1)
+      (subst (λ v. FindsAll v c.args.process c.args.dir c.args.name c.args.child) (sym c.enter-state.ensures.same.1) c.requires.finds)
+      c.enter-state.ensures.holds.1;
 }
 
 pub leave_answered-requires-clause-weight : goal.leave_answered-requires-clause-weight
@@ -57,8 +57,11 @@ leave_answered-requires-clause-rule g c κs within = (
       let one = subst (λ v. HasOneLock v c.requires.still.0) same c.requires.still.1 in
       let mine = subst (λ (v : View). Each (λ p. p.process ≡ c.args.process) v.procs) same c.requires.mine in
       let entry : Entry = record { process = c.args.process; op = Look c.args.dir c.args.name; reply = c.reply_found.result } in
-      let after = record c.enter-state.result { stakes = c.put_stake.new.stakes; references = c.note_found.new.references;
-      history = c.note_found.new.history } in
+      let after = record c.enter-state.result {
+        stakes = c.put_stake.new.stakes;
+        references = c.note_found.new.references;
+        history = c.note_found.new.history;
+      } in
       answers-one (seen_by g.S.Stake.held g.S.Stake.lent g.S.Stake.origin g.S.Stake.faults g.S.Stake.forced) c.enter-state.result
       after (pass_view c.enter-state.new.pass) others c.requires.still.0 c.args.locked.number c.args.locked.stake c.args.locked.core
       entry one c.requires.still.2 mine
@@ -77,8 +80,11 @@ leave_home-requires-clause-rule g c κs within = (
   c.enter-state.result,
   c.enter-state.ensures.inside,
   λ others h.
-      let after = record c.enter-state.result { stakes = c.put_stake.new.stakes; references = c.note_found.new.references;
-      history = c.note_found.new.history } in
+      let after = record c.enter-state.result {
+        stakes = c.put_stake.new.stakes;
+        references = c.note_found.new.references;
+        history = c.note_found.new.history;
+      } in
       fails-one (seen_by g.S.Stake.held g.S.Stake.lent g.S.Stake.origin g.S.Stake.faults g.S.Stake.forced) c.enter-state.result
       after (pass_view c.enter-state.new.pass) others c.requires.still.0 c.args.locked.number c.args.locked.stake c.args.locked.core
       (subst (λ v. HasOneLock v c.requires.still.0) (sym c.enter-state.ensures.same.1) c.requires.still.1) c.requires.still.2
