@@ -134,7 +134,8 @@ module _ {S : Type 0} where
     mount = h.mount;
     fs = h.fs;
     same = each-permutation (IsMountOf h.mount) xs ys p h.same;
-    parts = same-parts seen h.mount h.fs (guarded s) (all_procs xs) (all_procs ys) (all_locks xs) (all_locks ys) (same-order xs ys p) h.parts;
+    parts = same-parts seen h.mount h.fs (guarded s) (all_procs xs) (all_procs ys) (all_locks xs) (all_locks ys) (same-order xs ys p)
+        h.parts;
   }
 
   pub with_blank : (seen : S → Seen) (s : State S) (xs : List View) → Holds seen s xs → Holds seen s (blank ∷ xs)

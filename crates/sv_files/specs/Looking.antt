@@ -1,5 +1,6 @@
 -- What a name leads to in a directory, and what is answered of it.
-use Rattle.std.specs.Prelude.{◌≡◌, ◌≢◌, ◌<◌, ◌+◌, ◌==◌, ℕ, Bool, true, false, List, Option, Some, None, Result, Ok, Err, if◌then◌else◌, set, slice_index}
+use Rattle.std.specs.Prelude.{◌≡◌, ◌≢◌, ◌<◌, ◌+◌, ◌==◌, ℕ, Bool, true, false, List, Option, Some, None, Result, Ok, Err}
+use Rattle.std.specs.Prelude.{if◌then◌else◌, set, slice_index}
 use Rattle.sv_form.specs.Node.{Node, is_dir}
 use Rattle.sv_form.specs.NodeNames.{child_of}
 use Rattle.sv_form.specs.declared.inode.InodeBody.{InodeBody}

@@ -1,6 +1,7 @@
 -- What a mount begins with: an image that was checked, a stake with each of its lines, and the parts of that stake by their owners. And
 -- what it makes of them: what the rule says of stakes, and what a core asks.
-use Rattle.std.specs.Prelude.{◌≡◌, ◌≤◌, ◌<◌, ◌+◌, ◌==◌, ℕ, false, List, [], IsSome, Option, Some, None, length, replicate, set, count_by, true, ◌*◌, if◌then◌else◌}
+use Rattle.std.specs.Prelude.{◌≡◌, ◌≤◌, ◌<◌, ◌+◌, ◌==◌, ℕ, false, List, [], IsSome}
+use Rattle.std.specs.Prelude.{Option, Some, None, length, replicate, set, count_by, true, ◌*◌, if◌then◌else◌}
 use Rattle.sv_form.specs.declared.owners.Mounted.{Mounted}
 use Rattle.sv_form.specs.declared.place.Place.{Place}
 use Rattle.sv_form.specs.Geometry.{IsPlace, inode_count}
