@@ -1,5 +1,5 @@
 // How often each inode is referred to, and how many are.
-ghost use Rattle.std.specs.Prelude.{◌≡◌, ◌<◌, ◌+◌, ◌^◌, ◌==◌, ◌&&◌, ◌*◌, ◌≤◌, true, IfOk, length, replicate, set, slice_index};
+ghost use Rattle.std.specs.Prelude.{◌≡◌, ◌<◌, ◌+◌, ◌^◌, ◌==◌, ◌&&◌, ◌*◌, ◌≤◌, true, nat_lt, IfOk, length, replicate, set, slice_index};
 ghost use Rattle.sv_plain.specs.Totals.{one_if};
 
 use crate::NoMemory;
@@ -49,7 +49,8 @@ impl References {
     // A share more of the inode is a number that can be told.
     pub fn can_count(&self, ino: u16) -> bool
         requires inside { ino < length self.now.counts.items }
-        ensures { result ≡ true → (slice_index self.now.counts.items ino + 1 < 2 ^ 32) × (self.now.taken + 1 < 2 ^ 32) }
+        ensures exact { result ≡ (nat_lt (slice_index self.now.counts.items ino) 4294967295 && nat_lt self.now.taken 4294967295) }
+        ensures fits { result ≡ true → (slice_index self.now.counts.items ino + 1 < 2 ^ 32) × (self.now.taken + 1 < 2 ^ 32) }
     {
         self.counts[usize::from(ino)] < u32::MAX && self.taken < u32::MAX
     }
